@@ -1,4 +1,9 @@
 -- Laws on the definitions of specs/, by subject.
-pub mod CutLaws
+pub mod NotANumber
 pub mod Patterns
+pub mod HalfEven
+pub mod Rounded
+pub mod SignedExponent
+pub mod NarrowLaws
 pub mod OrderLaws
+pub mod CutLaws

@@ -2,6 +2,7 @@
 ghost use mathlib.Core.Path.{_≡_};
 
 pub mod cut;
+pub mod narrow;
 pub mod order;
 
 // An f32 as an f64, which holds every one. A NaN gives a NaN.

@@ -1,22 +1,13 @@
 -- `order` gives the key of every float. `x != x` parts the NaN, whose pattern in the definition is 7ff8000000000000, from the floats whose
 -- bits can be read. Either way the rest is what `order_bits` ensures.
-use mathlib.Core.Path.{_≡_, refl, sym, ap, _∙_, subst}
-use mathlib.Core.Bool.{false, not, true≢false}
-use lib.Dec.{T}
-use lib.Ieee.{Float, nan, inf, fin, isNan, ne}
-use lib.Ieee.Compare.{differs-from-itself}
+use mathlib.Core.Path.{_≡_, refl, sym, ap, _∙_}
+use lib.Ieee.{nan}
 use mir.Facts.{toZ-ofZ}
 use borrow.Author.Needs.{needs}
 use Rattle.bits.specs.Order.{orderKey, floatKey}
+use Rattle.bits.proofs.NotANumber.{only-nan, equals-itself}
 use Rattle.bits.proofs.order.order.Statement.{statement}
 use Rattle.bits.proofs.order.order.Tie as tie
-
--- a float that equals itself is no NaN
-equals-itself : (x : Float) → ne x x ≡ false → T (not (isNan x))
-unfolding ne isNan
-equals-itself nan h = absurd (true≢false h)
-equals-itself (inf s) h = tt
-equals-itself (fin s m e) h = tt
 
 -- the NaN's key
 nan-key : orderKey 0x7ff8_0000_0000_0000 ≡ floatKey nan
@@ -29,7 +20,7 @@ order-bits-requires c κs = search needs
 returns : tie.Need-returns
 returns c =
     let x = c .before .before .args .x in
-    let is-nan : x ≡ nan = differs-from-itself x (subst T (sym (c .before .if1 .taken)) tt) in
+    let is-nan : x ≡ nan = only-nan x (c .before .if1 .taken) in
     toZ-ofZ (record { sfits = c .order-bits .ok }) ∙ c .order-bits .ensures ∙ nan-key ∙ ap floatKey (sym is-nan)
 
 float-to-bits-order-bits : tie.Need-float-to-bits-order-bits

@@ -1,0 +1,79 @@
+/* Hjoltravan: thins a triangle mesh. Every answer is proved to be the one that the statement
+   in crates/thinning/specs/ gives, for any input. No allocation, no global state, no errno. */
+#ifndef HJOLTRAVAN_H
+#define HJOLTRAVAN_H
+
+#include <stdbool.h>
+#include <stddef.h>
+#include <stdint.h>
+
+#ifdef __cplusplus
+extern "C" {
+#endif
+
+/* The most points and faces of a mesh. */
+#define HJOLTRAVAN_MOST_POINTS 65536
+#define HJOLTRAVAN_MOST_FACES 131072
+
+/* How much memory to lend for V points and F faces, in elements. Longer is fine; the rest is never written. */
+#define HJOLTRAVAN_OUT_POINTS(V, F) (3 * (size_t)(V))
+#define HJOLTRAVAN_OUT_FACES(V, F) (3 * (size_t)(F))
+#define HJOLTRAVAN_WORK_U32(V, F) (16 * (size_t)(V) + 32 * (size_t)(F))
+#define HJOLTRAVAN_WORK_F32(V, F) (4 * (size_t)(V) + 12 * (size_t)(F))
+#define HJOLTRAVAN_WORK_F64(V, F) (16 * (size_t)(V) + 6 * (size_t)(F))
+
+/* Thins a mesh.
+
+   points, points_len   x, y, z of each point, 3V floats
+   faces, faces_len     the three point numbers of each triangle, from 0, 3F numbers
+   ratio                how much to take away: 0 nothing (the mesh is copied), 1 as much as can be
+   preserve             whether points on an open border stay as they are
+   limited, limit       whether only pairs of points at most this far apart may be joined; limit isn't looked at without it
+   out_points           at least HJOLTRAVAN_OUT_POINTS floats
+   out_faces            at least HJOLTRAVAN_OUT_FACES numbers
+   work_u32, work_f32, work_f64   at least the stated lengths; what they hold at the call doesn't matter
+   answer               number, place, points out, faces out, folds made
+
+   Lengths count elements, not bytes. None of the seven lent parts that are written (the two outputs, the three
+   work memories and answer) may overlap another part, the inputs included. The two inputs may be the same memory.
+
+   The numbers, in the order they are checked:
+    1  a list's length is no multiple of 3
+    2  more than 65,536 points or 131,072 faces
+    3  an output or work memory is too short
+    4  no points or no faces
+    5  the ratio is NaN, below 0 or above 1
+    6  the limit is NaN
+    7  a coordinate isn't finite or its size is above 1,048,576; place: the first such coordinate's number
+    8  a face names a point that there isn't; place: that face
+    9  a face names one point twice; place: that face (the lowest bad face counts, and within it 8 comes first)
+   10  nothing could be joined, and border points are held; place: how many there are
+   11  nothing could be joined
+    0  done: the thinned mesh is in the first 3 * points out floats and 3 * faces out numbers of the outputs
+
+   A refusal (any number but 0) changes neither output. Work memory is untouched on 1 to 9, and its stated part is
+   all zero after 0, 10 and 11. */
+void hjoltravan_thin(const float *points, size_t points_len, const uint32_t *faces, size_t faces_len,
+                     float ratio, bool preserve, bool limited, float limit,
+                     float *out_points, size_t out_points_len, uint32_t *out_faces, size_t out_faces_len,
+                     uint32_t *work_u32, size_t work_u32_len, float *work_f32, size_t work_f32_len,
+                     double *work_f64, size_t work_f64_len, uint32_t answer[5]);
+
+/* The same by the plain walk, which works every cost out anew at each step: the meaning of the one above, and slow. */
+void hjoltravan_thin_plain(const float *points, size_t points_len, const uint32_t *faces, size_t faces_len,
+                           float ratio, bool preserve, bool limited, float limit,
+                           float *out_points, size_t out_points_len, uint32_t *out_faces, size_t out_faces_len,
+                           uint32_t *work_u32, size_t work_u32_len, float *work_f32, size_t work_f32_len,
+                           double *work_f64, size_t work_f64_len, uint32_t answer[5]);
+
+/* The leaves, on bit patterns: the square root of an f32, an f64 rounded to f32, and the signed key of an f64
+   whose order is IEEE 754-2019 totalOrder. */
+uint32_t hjoltravan_root(uint32_t bits);
+uint32_t hjoltravan_narrow(uint64_t bits);
+int64_t hjoltravan_order(uint64_t bits);
+
+#ifdef __cplusplus
+}
+#endif
+
+#endif
