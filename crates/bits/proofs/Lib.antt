@@ -1,6 +1,12 @@
 -- Laws on the definitions of specs/, by subject.
 pub mod NotANumber
 pub mod Patterns
+pub mod NotBelowZero
+pub mod RootSteps
+pub mod RootTies
+pub mod RootLaws
+pub mod RootValues
+pub mod RootScaled
 pub mod HalfEven
 pub mod Rounded
 pub mod SignedExponent

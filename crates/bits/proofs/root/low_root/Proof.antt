@@ -1,0 +1,44 @@
+-- `bits::root::low_root` meets its contract: the shifted digits and the power of two are the pattern's number. Assumes nothing.
+use mathlib.Core.Path.{_≡_, refl, sym, ap, _∙_}
+use Prim.Native.Nat.{_*_, _%_, _^_}
+use native.Mathlib.Nat.{mod-eq-of-lt}
+use native.Mathlib.Omega.{arith}
+use Rattle.bits.specs.Root.{finiteRoot}
+use Rattle.bits.proofs.RootLaws.{root-of-zero, nearest-is-root}
+use Rattle.bits.proofs.RootScaled.{subnormal-number}
+use borrow.Author.Needs.{needs}
+use Rattle.bits.proofs.root.low_root.Statement.{statement}
+use Rattle.bits.proofs.root.low_root.Tie as tie
+
+returns : tie.Need-returns
+returns c = sym (ap finiteRoot (c .if1 .taken) ∙ root-of-zero)
+
+shift-of-requires : tie.Need-shift-of-requires
+shift-of-requires c κs = search needs
+
+shl-scaled-root : tie.Need-shl-scaled-root
+shl-scaled-root c = search needs
+
+sub-scaled-root : tie.Need-sub-scaled-root
+sub-scaled-root c = search needs
+
+scaled-root-requires : tie.Need-scaled-root-requires
+scaled-root-requires c κs = search needs
+
+returns-2 : tie.Need-returns-2
+returns-2 c =
+    let b = c .before .before .before .args .b in
+    let k = c .before .shift-of .result in
+    let whole : b * 2 ^ k % 2 ^ 32 ≡ b * 2 ^ k = mod-eq-of-lt (omega arith) in
+    nearest-is-root b _ (omega arith) (c .scaled-root .ensures b (rw whole (subnormal-number b k (omega arith) (omega arith))))
+
+pub low-root-spec : {M : Type 1} → statement M
+low-root-spec =
+    tie.close
+    (tie.spec
+    returns
+    shift-of-requires
+    shl-scaled-root
+    sub-scaled-root
+    scaled-root-requires
+    returns-2)

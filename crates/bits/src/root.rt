@@ -1,0 +1,135 @@
+// The square root of an f32, on bit patterns and on floats: the nearest one, as specs/Root.antt states it over whole numbers.
+// The guess is float arithmetic of which nothing is proved; its check is arithmetic of whole numbers, and is the statement.
+ghost use mathlib.Core.Path.{_≡_};
+ghost use Prim.Native.Nat.{ℕ, _+_, _*_, _^_, _≤_, _<_};
+ghost use lib.Dec.{T};
+ghost use lib.Ieee.Positive.{positive};
+ghost use Rattle.bits.specs.Root.{fourfold, NearestRoot, finiteRoot, rootBits, root as rooted};
+
+// A line, as its height at 0 and its slope.
+struct Line {
+    base: f64,
+    slope: f64,
+}
+
+// A line near the root: one from 2^46 up to 2^47, where the power of two is even, and one from there up to 2^48.
+fn line_near(odd: u32) -> Line
+    ensures { λ r. ⌜ T (positive (r .base)) × T (positive (r .slope)) ⌝ }
+{
+    if odd == 0 {
+        return Line {
+            base: 4950638.2,
+            slope: 4.9747e-8,
+        };
+    }
+    Line {
+        base: 7001259.7,
+        slope: 3.5177e-8,
+    }
+}
+
+// A guess at the root of n: a line, then two of Heron's steps. Adding 2^40 and a half puts the whole part, rounded, at a
+// fixed place in the digits.
+fn first_guess(n: u64, odd: u32) -> u64
+    requires { ⌜ (0 < n) × (n ≤ 0xffff_ff00_0000) ⌝ }
+    ensures { λ r. ⌜ r < 0x200_0000 ⌝ }
+{
+    let x = n as f64;
+    let line = line_near(odd);
+    let near = line.base + x * line.slope;
+    let twice = near + x / near;
+    let sum = twice * 0.25 + 1099511627776.5 + x / twice;
+    f64::to_bits(sum) / 0x1000 % 0x200_0000
+}
+
+// The whole number nearest to n's root, from any guess: down while it is above, then up while it is below.
+fn corrected(n: u64, guess: u64) -> u64
+    requires { ⌜ (0 < n) × (n ≤ 0xffff_ff00_0000) × (guess < 0x200_0000) ⌝ }
+    ensures { λ r. ⌜ (r * r < n + r) × (n ≤ r * r + r) ⌝ }
+{
+    let mut r = guess;
+    while n + r <= r * r {
+        r -= 1;
+    }
+    while r * r + r < n {
+        r += 1;
+    }
+    r
+}
+
+// The whole number nearest to n's root. The guess is nearly always right, so it is tried first.
+fn whole_root(n: u64, odd: u32) -> u64
+    requires { ⌜ (0 < n) × (n ≤ 0xffff_ff00_0000) ⌝ }
+    ensures { λ r. ⌜ (r * r < n + r) × (n ≤ r * r + r) ⌝ }
+{
+    let r = first_guess(n, odd);
+    let square = r * r;
+    if square < n + r && n <= square + r {
+        return r;
+    }
+    corrected(n, r)
+}
+
+// The pattern nearest to the root of significand * 2^(power - 275), the significand with its leading digit. An odd power
+// goes to the significand; half of an even one is the root's field.
+fn scaled_root(significand: u32, power: u32) -> u32
+    requires { ⌜ (0x80_0000 ≤ significand) × (significand < 0x100_0000) × (power < 0x180) ⌝ }
+    ensures { λ r. ⌜ ((b : ℕ) → fourfold b ≡ significand * 2 ^ (power + 25) → NearestRoot b r) ⌝ }
+{
+    let odd = power % 2;
+    let n = ((significand as u64) * 0x80_0000) << odd;
+    power / 2 * 0x80_0000 + whole_root(n, odd) as u32
+}
+
+// How far the digits of a subnormal pattern are shifted up to have a leading digit.
+fn shift_of(b: u32) -> u32
+    requires { ⌜ (0 < b) × (b < 0x80_0000) ⌝ }
+    ensures { λ r. ⌜ (r ≤ 23) × (0x80_0000 ≤ b * 2 ^ r) × (b * 2 ^ r < 0x100_0000) ⌝ }
+{
+    u32::leading_zeros(b) - 8
+}
+
+// The root of +0 or of a subnormal pattern.
+fn low_root(b: u32) -> u32
+    requires { ⌜ b < 0x80_0000 ⌝ }
+    ensures { λ r. ⌜ r ≡ finiteRoot b ⌝ }
+{
+    if b == 0 {
+        return 0;
+    }
+    let shift = shift_of(b);
+    scaled_root(b << shift, 126 - shift)
+}
+
+// The root of any pattern: the nearest pattern, and 7fc00000 for what is below zero or no number.
+pub fn root_bits(b: u32) -> u32
+    ensures { λ r. ⌜ r ≡ rootBits b ⌝ }
+{
+    if b < 0x80_0000 {
+        return low_root(b);
+    }
+    if b < 0x7f80_0000 {
+        return scaled_root(0x80_0000 + b % 0x80_0000, b / 0x80_0000 + 125);
+    }
+    if b == 0x7f80_0000 {
+        return 0x7f80_0000;
+    }
+    if b == 0x8000_0000 {
+        return 0x8000_0000;
+    }
+    0x7fc0_0000
+}
+
+// The root of any float. The bits of a NaN are neither read nor made: one is tested for, and made as zero over zero.
+pub fn root(x: f32) -> f32
+    ensures { λ r. ⌜ r ≡ rooted x ⌝ }
+{
+    if x != x {
+        return 0.0 / 0.0;
+    }
+    let r = root_bits(f32::to_bits(x));
+    if r == 0x7fc0_0000 {
+        return 0.0 / 0.0;
+    }
+    f32::from_bits(r)
+}
