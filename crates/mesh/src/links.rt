@@ -1,0 +1,41 @@
+// The faces at a point, as a chain of corners.
+ghost use mathlib.Core.Path.{_≡_};
+ghost use Prim.Native.Nat.{_+_, _*_, _^_, _≤_, _<_};
+ghost use lib.ListN.{length, set};
+ghost use Rattle.mesh.specs.Memory.{first};
+ghost use Rattle.mesh.specs.Chains.{Tidy};
+ghost use Rattle.mesh.specs.Around.{Collected};
+use crate::cells::first_at;
+use crate::cells::live_at;
+use crate::cells::next_at;
+use crate::cells::set_first;
+use crate::cells::set_next;
+
+// Puts a corner at the head of a point's chain.
+pub fn push_corner(w: &mut [u32], f: usize, c: usize, x: usize)
+    requires { ⌜ 4 * f + c < length (now w) ⌝ ∗ ⌜ 7 * f + x < length (now w) ⌝ ∗ ⌜ c + 1 < 2 ^ 32 ⌝ }
+    ensures { λ _. ⌜ now (w .exit) ≡ set (set (now (w .entry)) (4 * f + c) (first f (now (w .entry)) x)) (7 * f + x) (c + 1) ⌝ }
+{
+    let old = first_at(w, f, x);
+    set_next(w, f, c, old);
+    set_first(w, f, x, (c + 1) as u32);
+}
+
+// The slots of the live faces around a point, into the cells from base on. Says how many.
+// A chain may still list dead faces: they are passed over.
+pub fn collect(w: &mut [u32], v: usize, f: usize, x: usize, base: usize) -> usize
+    requires { ⌜ Tidy v f (now w) ⌝ ∗ ⌜ x < v ⌝ ∗ ⌜ 13 * f + 4 * v ≤ base ⌝ ∗ ⌜ base + f ≤ length (now w) ⌝ }
+    ensures { λ n. ⌜ Collected v f (now (w .entry)) x base (now (w .exit)) n ⌝ }
+{
+    let mut n = 0;
+    let mut link = first_at(w, f, x) as usize;
+    while link != 0 {
+        let face = (link - 1) / 3;
+        link = next_at(w, f, link - 1) as usize;
+        if live_at(w, f, face) == 1 {
+            w[base + n] = face as u32;
+            n += 1;
+        }
+    }
+    n
+}
