@@ -1,0 +1,28 @@
+-- What each case of a choice stands for.
+use Prim.Native.Nat.{ℕ}
+use mathlib.Core.Bool.{Bool, true, false, cond}
+use lib.Dec.{eqb}
+use lib.Ieee.{Float, lt}
+use Rattle.placement.specs.declared.Kind.{Kind}
+use Rattle.placement.specs.declared.Kind.the-variants.{Free, Border}
+use Rattle.placement.specs.declared.Limit.{Limit}
+use Rattle.placement.specs.declared.Limit.the-variants.{Unlimited, AtMost}
+
+-- a kind's number in memory: free 0, border 1
+abbrev pub kindNumber : Kind → ℕ
+kindNumber Free = 0
+kindNumber Border = 1
+
+-- the kind of a number: 0 is free, any other border
+abbrev pub kindOf : ℕ → Kind
+kindOf n = cond (eqb n 0) Free Border
+
+-- a border point is fixed
+abbrev pub fixed : Kind → Bool
+fixed Free = false
+fixed Border = true
+
+-- a length is above the limit
+abbrev pub aboveLimit : Float → Limit → Bool
+aboveLimit length Unlimited = false
+aboveLimit length (AtMost most) = lt most length

@@ -1,0 +1,61 @@
+// Where the point of a pair goes, what the pair costs, and whether it may be opened.
+pub mod error;
+pub mod inverse;
+pub mod pair;
+pub mod place;
+
+ghost use mathlib.Core.Path.{_≡_};
+ghost use Rattle.placement.specs.Choices.{kindNumber, kindOf, fixed, aboveLimit};
+
+// Whether a point may move: it is free, or on the border and fixed.
+pub enum Kind {
+    Free,
+    Border,
+}
+
+// The length that a pair may have: any, or at most so much.
+pub enum Limit {
+    Unlimited,
+    AtMost(f32),
+}
+
+// A kind's number, as memory holds it.
+pub fn kind_number(kind: Kind) -> u32
+    ensures { λ r. ⌜ r ≡ kindNumber kind ⌝ }
+{
+    match kind {
+        Kind::Free => 0,
+        Kind::Border => 1,
+    }
+}
+
+// The kind that a number stands for: 0 is free, and any other is border.
+pub fn kind_of(number: u32) -> Kind
+    ensures { λ r. ⌜ r ≡ kindOf number ⌝ }
+{
+    if number == 0 {
+        Kind::Free
+    } else {
+        Kind::Border
+    }
+}
+
+// Whether a point of this kind is fixed.
+pub fn is_fixed(kind: Kind) -> bool
+    ensures { λ r. ⌜ r ≡ fixed kind ⌝ }
+{
+    match kind {
+        Kind::Free => false,
+        Kind::Border => true,
+    }
+}
+
+// Whether a length is above the limit.
+pub fn is_above(length: f32, limit: Limit) -> bool
+    ensures { λ r. ⌜ r ≡ aboveLimit length limit ⌝ }
+{
+    match limit {
+        Limit::Unlimited => false,
+        Limit::AtMost(most) => length > most,
+    }
+}

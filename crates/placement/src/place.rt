@@ -1,0 +1,134 @@
+// Where a pair's point goes: the solved point if it may stand, else the cheapest of the ends and the middle.
+use crate::error::error_at;
+use crate::inverse::inverse;
+use geometry::Point;
+use geometry::Quadric;
+ghost use mathlib.Core.Path.{_≡_};
+ghost use Rattle.placement.specs.Places.{solvedPart, solved, longerOf, inSize, stands, tested as testedOf, withError, cheaperChoice, fallback as fallbackOf, placeOf};
+
+// The least length that the reach of a pair is taken from: 2^-23, Rust's f32::EPSILON.
+const LEAST: f32 = 1.0 / 8388608.0;
+
+// A solved point by its parts, or none.
+pub enum Placement {
+    Solved(f32, f32, f32),
+    Unsolved,
+}
+
+// A place and the error there.
+pub struct Choice {
+    pub place: Point,
+    pub cost: f64,
+}
+
+// A part of the solved point: a row of the inverse, negated, times the first three of the last column.
+fn solved_part(row: [f64; 3], q: Quadric) -> f32
+    ensures { λ r. ⌜ r ≡ solvedPart row q ⌝ }
+{
+    bits::narrow::narrow((-row[0] * q.m14 + -row[1] * q.m24) + -row[2] * q.m34)
+}
+
+// The solved point, before it is tested.
+pub fn solve(q: Quadric) -> Placement
+    ensures { λ r. ⌜ r ≡ solved q ⌝ }
+{
+    let rows = inverse(
+        [q.m11, q.m12, q.m13],
+        [q.m12, q.m22, q.m23],
+        [q.m13, q.m23, q.m33],
+    );
+    let first = rows.first;
+    let second = rows.second;
+    let third = rows.third;
+    if rows.exists {
+        Placement::Solved(
+            solved_part(first, q),
+            solved_part(second, q),
+            solved_part(third, q),
+        )
+    } else {
+        Placement::Unsolved
+    }
+}
+
+// Whether a part is at most the bound in size.
+fn in_size(x: f32, bound: f32) -> bool
+    ensures { λ r. ⌜ r ≡ inSize bound x ⌝ }
+{
+    (-bound <= x) & (x <= bound)
+}
+
+// The longer of a pair's length and 2^-23, which is also taken for a NaN.
+fn longer(length: f32) -> f32
+    ensures { λ r. ⌜ r ≡ longerOf length ⌝ }
+{
+    if length > LEAST { length } else { LEAST }
+}
+
+// Whether a solved point may stand: finite, of a size within the bound, and near keep.
+fn may_stand(p: Point, keep: Point, length: f32, bound: f32) -> bool
+    ensures { λ r. ⌜ r ≡ stands bound length keep p ⌝ }
+{
+    if p.all_finite() & in_size(p.x, bound) & in_size(p.y, bound) & in_size(p.z, bound) {
+        p.difference(keep).norm() <= 2.0 * longer(length)
+    } else {
+        false
+    }
+}
+
+// A solved point that may stand, or none.
+fn tested(solved: Placement, keep: Point, length: f32, bound: f32) -> Placement
+    ensures { λ r. ⌜ r ≡ testedOf bound length keep solved ⌝ }
+{
+    match solved {
+        Placement::Solved(x, y, z) => {
+            if may_stand(Point { x, y, z }, keep, length, bound) {
+                solved
+            } else {
+                Placement::Unsolved
+            }
+        }
+        Placement::Unsolved => Placement::Unsolved,
+    }
+}
+
+// A place with the error there.
+fn with_error(q: Quadric, place: Point) -> Choice
+    ensures { λ r. ⌜ r ≡ withError q place ⌝ }
+{
+    Choice {
+        place,
+        cost: error_at(q, place),
+    }
+}
+
+// The cheaper of two by the order of costs, the first on equals. An error that is a NaN has a key above all others, where Rust's
+// total_cmp would go by its sign, which no operation fixes. No admitted mesh has one: coordinates are at most 2^20 in size, and so
+// are places, so every error is below 2^67 in size.
+fn cheaper(first: Choice, second: Choice) -> Choice
+    ensures { λ r. ⌜ r ≡ cheaperChoice first second ⌝ }
+{
+    if bits::order::order(second.cost) < bits::order::order(first.cost) {
+        second
+    } else {
+        first
+    }
+}
+
+// The cheapest of keep's point, remove's point and the middle, the earliest on equals.
+fn fallback(q: Quadric, keep: Point, remove: Point) -> Choice
+    ensures { λ r. ⌜ r ≡ withError q (fallbackOf q keep remove) ⌝ }
+{
+    let ends = cheaper(with_error(q, keep), with_error(q, remove));
+    cheaper(ends, with_error(q, keep.middle(remove)))
+}
+
+// The place of a pair with the error there.
+pub fn choose(q: Quadric, keep: Point, remove: Point, length: f32, bound: f32) -> Choice
+    ensures { λ r. ⌜ r ≡ withError q (placeOf bound length q keep remove) ⌝ }
+{
+    match tested(solve(q), keep, length, bound) {
+        Placement::Solved(x, y, z) => with_error(q, Point { x, y, z }),
+        Placement::Unsolved => fallback(q, keep, remove),
+    }
+}
