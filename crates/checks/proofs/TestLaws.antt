@@ -1,0 +1,67 @@
+-- The facts behind a test: of two tests joined, of a number, and of every element of a list.
+use Prim.Native.Nat.{ℕ, zero, suc, _*_, _/_, _%_, _<_, zero-le, suc-le-suc}
+use native.Mathlib.Nat.{le-of-suc-le-suc}
+use native.Mathlib.Omega.{arith}
+use mathlib.Core.Path.{_≡_, refl, sym, subst}
+use mathlib.Core.List.{List, [], _∷_}
+use mathlib.Core.Bool.{Bool, true, false, not, _&&_, _||_}
+use borrow.Author.Tests.{eqb-true, eqb-false, eq-eqb, ne-eqb, not-false}
+use lib.Dec.{T, eqb}
+use lib.ListN.{length, getD}
+use Rattle.surface.specs.Lists.{some}
+
+-- ---- two tests joined by "or" or by "and"
+
+-- neither holds
+pub or-false : (a b : Bool) → (a || b) ≡ false → (a ≡ false) × (b ≡ false)
+or-false false b e = (refl, e)
+or-false true b e = (e, cc)
+
+pub neither : {a b : Bool} → a ≡ false → b ≡ false → (a || b) ≡ false
+neither e g = rw (e, g)
+
+-- both hold
+pub and-true : (a b : Bool) → (a && b) ≡ true → (a ≡ true) × (b ≡ true)
+and-true true b e = (refl, e)
+and-true false b e = (e, cc)
+
+pub both : {a b : Bool} → a ≡ true → b ≡ true → (a && b) ≡ true
+both e g = rw (e, g)
+
+-- ---- a number
+
+-- a multiple of 3, by its remainder and back
+pub by-three : (n : ℕ) → not (eqb (n % 3) 0) ≡ false → n ≡ 3 * (n / 3)
+by-three n e = let r : n % 3 ≡ 0 = eqb-true _ _ (not-false _ e) in omega arith
+
+pub even-threes : (n : ℕ) → n ≡ 3 * (n / 3) → not (eqb (n % 3) 0) ≡ false
+even-threes n e = let r : n % 3 ≡ 0 = omega arith in rw (eq-eqb _ _ r)
+
+-- above 0, and back
+pub above-zero : (n : ℕ) → eqb n 0 ≡ false → 0 < n
+above-zero n e = let z : n ≡ 0 → ⊥ = eqb-false n 0 e in omega arith
+
+pub not-zero : (n : ℕ) → 0 < n → eqb n 0 ≡ false
+not-zero n h = ne-eqb n 0 (λ (z : n ≡ 0). omega arith)
+
+-- a test that holds, as an equation and as a fact
+pub holds : {b : Bool} → b ≡ true → T b
+holds e = subst T (sym e) tt
+
+pub is-true : (b : Bool) → T b → b ≡ true
+is-true true t = refl
+is-true false t = absurd t
+
+-- ---- a list
+
+module _ {A : Type 0} (test : A → Bool) (d : A) where
+  -- none passes exactly where each fails
+  pub each-fails : (xs : List A) → some test xs ≡ false → (k : ℕ) → k < length xs → test (getD xs k d) ≡ false
+  unfolding some
+  each-fails (x ∷ xs) e zero h = or-false (test x) _ e .0
+  each-fails (x ∷ xs) e (suc k) h = each-fails xs (or-false (test x) _ e .1) k (le-of-suc-le-suc h)
+
+  pub none-passes : (xs : List A) → ((k : ℕ) → k < length xs → test (getD xs k d) ≡ false) → some test xs ≡ false
+  unfolding some
+  none-passes [] e = refl
+  none-passes (x ∷ xs) e = neither (e 0 (suc-le-suc zero-le)) (none-passes xs (λ k h. e (suc k) (suc-le-suc h)))

@@ -1,0 +1,60 @@
+-- `checks::first_bad` meets its contract. The loop's invariant: the coordinates passed are good, so the first bad one lies from k on.
+-- The measure is what is left of the list. Assumes nothing.
+use Prim.Native.Nat.{_-_}
+use mathlib.Core.Path.{sym, _∙_}
+use borrow.Author.Needs.{needs}
+use lib.ListN.{length}
+use lib.Ieee.{nan}
+use Rattle.checks.specs.Verdicts.{badCoordinate}
+use Rattle.checks.proofs.ListLaws.{Searched, start, found, passed, none-left}
+use Rattle.checks.proofs.first_bad.Statement.{statement}
+use Rattle.checks.proofs.first_bad.Tie as tie
+
+abbrev Inv-loop : tie.InvT-loop
+Inv-loop bound points k₀ k = Searched (badCoordinate bound) points nan k
+
+abbrev μ-loop : tie.MeasureT-loop
+μ-loop bound points k₀ k = length points - k
+
+loop-holds : tie.Need-loop-holds Inv-loop μ-loop
+loop-holds c = start _ _ _
+
+mul-bad-coordinate : tie.Need-mul-bad-coordinate Inv-loop μ-loop
+mul-bad-coordinate c = search needs
+
+shared-slice-read-bad-coordinate : tie.Need-shared-slice-read-bad-coordinate Inv-loop μ-loop
+shared-slice-read-bad-coordinate c = search needs
+
+bad-coordinate-requires : tie.Need-bad-coordinate-requires Inv-loop μ-loop
+bad-coordinate-requires c κs = search needs
+
+returns : tie.Need-returns Inv-loop μ-loop
+returns c = found _ _ _ (c .before .before .before .before .loop .inv) (c .before .before .before .loop-test .taken) (sym (c .before .bad-coordinate .ensures) ∙ c .if1 .taken)
+
+add-k : tie.Need-add-k Inv-loop μ-loop
+add-k c = search needs
+
+loop-less : tie.Need-loop-less Inv-loop μ-loop
+loop-less c = search needs
+
+loop-again : tie.Need-loop-again Inv-loop μ-loop
+loop-again c = passed _ _ _ (c .before .before .before .before .loop .inv) (c .before .before .before .loop-test .taken) (sym (c .before .bad-coordinate .ensures) ∙ c .if1 .left)
+
+returns-2 : tie.Need-returns-2 Inv-loop μ-loop
+returns-2 c = none-left _ _ _ (c .before .loop .inv) (c .loop-test .left)
+
+pub first-bad-spec : {M : Type 1} → statement M
+first-bad-spec =
+    tie.close
+    (tie.spec
+    Inv-loop
+    μ-loop
+    loop-holds
+    mul-bad-coordinate
+    shared-slice-read-bad-coordinate
+    bad-coordinate-requires
+    returns
+    add-k
+    loop-less
+    loop-again
+    returns-2)

@@ -1,0 +1,75 @@
+-- What is known of an input once its verdict is known. proofs/VerdictLaws.antt and RefusalLaws.antt show it from the verdict.
+use Prim.Native.Nat.{ℕ, _+_, _*_, _^_, _≤_, _<_}
+use mathlib.Core.Path.{_≡_}
+use mathlib.Core.List.{List}
+use mathlib.Core.Bool.{Bool, true, false, not, cond}
+use lib.Dec.{T}
+use lib.ListN.{length, getD}
+use lib.Ieee.{nan, le, eq}
+use Rattle.surface.specs.declared.Face.{Face}
+use Rattle.surface.specs.Lists.{every}
+use Rattle.surface.specs.Faces.{proper, facesOf}
+use Rattle.checks.specs.Verdicts.{Input, pointsIn, facesIn, zeroFloat, oneFloat, badLimit, badCoordinate, outside}
+
+-- none of 1 to 7 holds
+pub record Sized (i : Input) : Type 0 where
+  -- 1: three numbers to a point and to a face
+  pub points-by-three : length (i .points) ≡ 3 * pointsIn i
+  pub faces-by-three : length (i .faces) ≡ 3 * facesIn i
+  -- 2: V and F are within their limits
+  pub points-most : pointsIn i ≤ 65536
+  pub faces-most : facesIn i ≤ 131072
+  -- 3: each lent buffer is long enough
+  pub room-points : 3 * pointsIn i ≤ i .rooms .points
+  pub room-faces : 3 * facesIn i ≤ i .rooms .faces
+  pub room-u32s : 16 * pointsIn i + 32 * facesIn i ≤ i .rooms .u32s
+  pub room-f32s : 4 * pointsIn i + 12 * facesIn i ≤ i .rooms .f32s
+  pub room-f64s : 16 * pointsIn i + 6 * facesIn i ≤ i .rooms .f64s
+  -- 4: there are points and faces
+  pub points-some : 0 < pointsIn i
+  pub faces-some : 0 < facesIn i
+  -- 5: the ratio is between 0 and 1
+  pub ratio-least : T (le zeroFloat (i .ratio))
+  pub ratio-most : T (le (i .ratio) oneFloat)
+  -- 6: the limit is no NaN
+  pub limit-good : badLimit (i .limit) ≡ false
+  -- 7: every coordinate is finite, and its size is within the bound
+  pub coordinates-good : (k : ℕ) → k < length (i .points) → badCoordinate (i .bound) (getD (i .points) k nan) ≡ false
+
+-- none of 1 to 7 holds, and the ratio is 0.0 or -0.0
+pub record Copiable (i : Input) : Type 0 where
+  pub sized : Sized i
+  pub ratio-zero : eq (i .ratio) zeroFloat ≡ true
+
+-- none of 1 to 9 holds, and the ratio is not zero: so every face has three distinct points below V
+pub record Admissible (i : Input) : Type 0 where
+  pub sized : Sized i
+  pub ratio-above : eq (i .ratio) zeroFloat ≡ false
+  pub faces-proper : every (proper (pointsIn i)) (facesOf (facesIn i) (i .faces)) ≡ true
+
+-- ---- the place of a refusal
+
+-- k is the place of the first that passes. `past` stands for what is past the end, and is never read.
+pub record FirstAt {A : Type 0} (test : A → Bool) (past : A) (xs : List A) (k : ℕ) : Type 0 where
+  pub within : k < length xs
+  pub passes : test (getD xs k past) ≡ true
+  pub none-before : (j : ℕ) → j < k → test (getD xs j past) ≡ false
+
+-- a face that 8 or 9 holds of
+abbrev pub improper : ℕ → Face → Bool
+improper v f = not (proper v f)
+
+-- what stands past the end of a list of faces
+abbrev pub noFace : Face
+noFace = record { a = 0; b = 0; c = 0 }
+
+-- 8 and 9: face p is the lowest that is not proper, and n is 8 where it names a point not below v, else 9
+pub record LowestBad (v : ℕ) (faces : List Face) (n p : ℕ) : Type 0 where
+  pub lowest : FirstAt (improper v) noFace faces p
+  pub number : n ≡ cond (outside v (getD faces p noFace)) 8 9
+
+-- a number of the table, and a place that fits u32
+pub record InTable (n p : ℕ) : Type 0 where
+  pub number-least : 1 ≤ n
+  pub number-most : n ≤ 9
+  pub place-fits : p < 2 ^ 32

@@ -1,0 +1,188 @@
+// The checks of an input, in their order: answer numbers 1 to 9.
+// Tests are joined by `|` and `&`: each looks at all its parts, none of which can fail, and answers for NaN too.
+ghost use mathlib.Core.Path.{_≡_};
+ghost use Prim.Native.Nat.{_+_, _*_, _/_, _≤_};
+ghost use lib.ListN.{length};
+ghost use Rattle.surface.specs.Faces.{facesOf};
+ghost use Rattle.checks.specs.Verdicts.{uneven, large, short, empty, badRatio, badLimit, badCoordinate, firstOf, outside, doubled, faceAt, faceVerdict, contentsVerdict, verdictOf};
+use placement::Limit;
+use surface::Face;
+
+// What an input is: refused by number and place, copied as it is (ratio zero), or admitted to the walk.
+pub enum Verdict {
+    Refused(u32, u32),
+    Copied,
+    Admitted,
+}
+
+// How many cells each lent buffer has: the two outputs, and the work memory of each type.
+pub struct Rooms {
+    pub points: usize,
+    pub faces: usize,
+    pub u32s: usize,
+    pub f32s: usize,
+    pub f64s: usize,
+}
+
+// 1: a list's length is no multiple of 3.
+fn is_uneven(points: usize, faces: usize) -> bool
+    ensures { λ r. ⌜ r ≡ uneven points faces ⌝ }
+{
+    (points % 3 != 0) | (faces % 3 != 0)
+}
+
+// 2: too many points or faces.
+fn is_large(v: usize, f: usize) -> bool
+    ensures { λ r. ⌜ r ≡ large v f ⌝ }
+{
+    (v > 65536) | (f > 131072)
+}
+
+// 3: an output or work buffer is shorter than stated.
+fn is_short(v: usize, f: usize, rooms: Rooms) -> bool
+    requires { ⌜ (v ≤ 65536) × (f ≤ 131072) ⌝ }
+    ensures { λ r. ⌜ r ≡ short v f rooms ⌝ }
+{
+    (rooms.points < 3 * v)
+        | (rooms.faces < 3 * f)
+        | (rooms.u32s < 16 * v + 32 * f)
+        | (rooms.f32s < 4 * v + 12 * f)
+        | (rooms.f64s < 16 * v + 6 * f)
+}
+
+// 4: there are no points or no faces.
+fn is_empty(v: usize, f: usize) -> bool
+    ensures { λ r. ⌜ r ≡ empty v f ⌝ }
+{
+    (v == 0) | (f == 0)
+}
+
+// 5: the ratio is NaN, below 0 or above 1.
+fn bad_ratio(ratio: f32) -> bool
+    ensures { λ r. ⌜ r ≡ badRatio ratio ⌝ }
+{
+    !((0.0 <= ratio) & (ratio <= 1.0))
+}
+
+// 6: the length limit is NaN.
+fn bad_limit(limit: Limit) -> bool
+    ensures { λ r. ⌜ r ≡ badLimit limit ⌝ }
+{
+    match limit {
+        Limit::Unlimited => false,
+        Limit::AtMost(most) => most != most,
+    }
+}
+
+// 7: a coordinate is not finite, or its size is above the bound.
+fn bad_coordinate(bound: f32, x: f32) -> bool
+    ensures { λ r. ⌜ r ≡ badCoordinate bound x ⌝ }
+{
+    let infinity: f32 = 1.0 / 0.0;
+    !((x < infinity) & (-infinity < x) & (x <= bound) & (-bound <= x))
+}
+
+// The place of the first such coordinate, or the length where there is none.
+fn first_bad(bound: f32, points: &[f32]) -> usize
+    ensures { λ r. ⌜ r ≡ firstOf (badCoordinate bound) (now (points .entry)) ⌝ }
+{
+    let mut k = 0;
+    while k < points.len() {
+        if bad_coordinate(bound, points[k]) {
+            return k;
+        }
+        k += 1;
+    }
+    k
+}
+
+// Face number k of a list of point numbers.
+fn face_at(faces: &[u32], k: usize) -> Face
+    requires { ⌜ 3 * k + 3 ≤ length (now faces) ⌝ }
+    ensures { λ r. ⌜ r ≡ faceAt (now (faces .entry)) k ⌝ }
+{
+    Face {
+        a: faces[3 * k],
+        b: faces[3 * k + 1],
+        c: faces[3 * k + 2],
+    }
+}
+
+// 8: a face names a point not below v.
+fn is_outside(v: u32, f: Face) -> bool
+    ensures { λ r. ⌜ r ≡ outside v f ⌝ }
+{
+    !((f.a < v) & (f.b < v) & (f.c < v))
+}
+
+// 9: a face names one point twice.
+fn is_doubled(f: Face) -> bool
+    ensures { λ r. ⌜ r ≡ doubled f ⌝ }
+{
+    (f.a == f.b) | (f.b == f.c) | (f.c == f.a)
+}
+
+// 8 and 9: the lowest bad face counts, and within it 8 comes first.
+fn check_faces(v: u32, faces: &[u32]) -> Verdict
+    requires { ⌜ length (now faces) / 3 ≤ 131072 ⌝ }
+    ensures { λ r. ⌜ r ≡ faceVerdict v 0 (facesOf (length (now (faces .entry)) / 3) (now (faces .entry))) ⌝ }
+{
+    let count = faces.len() / 3;
+    let mut k = 0;
+    while k < count {
+        let face = face_at(faces, k);
+        if is_outside(v, face) {
+            return Verdict::Refused(8, k as u32);
+        }
+        if is_doubled(face) {
+            return Verdict::Refused(9, k as u32);
+        }
+        k += 1;
+    }
+    Verdict::Admitted
+}
+
+// 7 to 9: what the lists hold. Ratio zero is answered after 7 and before 8, faces unchecked.
+fn check_contents(points: &[f32], faces: &[u32], ratio: f32, bound: f32) -> Verdict
+    requires { ⌜ (length (now points) / 3 ≤ 65536) × (length (now faces) / 3 ≤ 131072) ⌝ }
+    ensures { λ r. ⌜ r ≡ contentsVerdict (now (points .entry)) (now (faces .entry)) ratio bound ⌝ }
+{
+    let bad = first_bad(bound, points);
+    if bad < points.len() {
+        Verdict::Refused(7, bad as u32)
+    } else if ratio == 0.0 {
+        Verdict::Copied
+    } else {
+        check_faces((points.len() / 3) as u32, faces)
+    }
+}
+
+// What an input is: the first of the numbers 1 to 9 that holds, in their order.
+pub fn verdict_of(
+    points: &[f32],
+    faces: &[u32],
+    rooms: Rooms,
+    ratio: f32,
+    limit: Limit,
+    bound: f32,
+) -> Verdict
+    ensures { λ r. ⌜ r ≡ verdictOf (record { points = now (points .entry); faces = now (faces .entry); rooms = rooms; ratio = ratio; limit = limit; bound = bound }) ⌝ }
+{
+    let v = points.len() / 3;
+    let f = faces.len() / 3;
+    if is_uneven(points.len(), faces.len()) {
+        Verdict::Refused(1, 0)
+    } else if is_large(v, f) {
+        Verdict::Refused(2, 0)
+    } else if is_short(v, f, rooms) {
+        Verdict::Refused(3, 0)
+    } else if is_empty(v, f) {
+        Verdict::Refused(4, 0)
+    } else if bad_ratio(ratio) {
+        Verdict::Refused(5, 0)
+    } else if bad_limit(limit) {
+        Verdict::Refused(6, 0)
+    } else {
+        check_contents(points, faces, ratio, bound)
+    }
+}
