@@ -1,12 +1,13 @@
-/* Times the proved root and narrowing beside the processor's own, in the same loop over the same numbers.
-   Each reference is a function of its own that isn't inlined, as the library's are. Prints nanoseconds a call and the ratio. */
+/* Times the proved root and narrowing beside the processor's own, in the same loop over the same numbers: called as the
+   library's are, in line one at a time, and in line as the compiler likes, which may do several at once.
+   Prints nanoseconds a number and the ratio. */
 #include "../include/hjoltravan.h"
 #include <math.h>
 #include <stdio.h>
 #include <string.h>
 #include <time.h>
 
-enum { COUNT = 1 << 16, RUNS = 200 };
+enum { COUNT = 1 << 14, RUNS = 2000 };
 
 static uint32_t roots[COUNT];
 static uint64_t doubles[COUNT];
@@ -18,7 +19,7 @@ static uint64_t next_random(void) {
     return state ^= state << 17;
 }
 
-__attribute__((noinline)) static uint32_t own_root(uint32_t bits) {
+static inline uint32_t own_root(uint32_t bits) {
     float x, r;
     memcpy(&x, &bits, 4);
     r = sqrtf(x);
@@ -26,7 +27,7 @@ __attribute__((noinline)) static uint32_t own_root(uint32_t bits) {
     return bits;
 }
 
-__attribute__((noinline)) static uint32_t own_narrow(uint64_t bits) {
+static inline uint32_t own_narrow(uint64_t bits) {
     double x;
     uint32_t out;
     memcpy(&x, &bits, 8);
@@ -54,6 +55,20 @@ static double seconds(void) {
         }                                                        \
     } while (0)
 
+__attribute__((noinline)) static uint32_t called_root(uint32_t bits) { return own_root(bits); }
+__attribute__((noinline)) static uint32_t called_narrow(uint64_t bits) { return own_narrow(bits); }
+
+/* keeps the compiler from doing several turns at once */
+static inline uint32_t alone(uint32_t bits) {
+    __asm__("" : "+r"(bits));
+    return bits;
+}
+
+static void say(const char *what, double ours, double called, double single, double free) {
+    printf("%s %6.2f ns; the processor's: called %.2f ns, ratio %.1f; in line %.2f ns, ratio %.1f; several at once %.2f ns, ratio %.1f\n", what, ours,
+           called, ours / called, single, ours / single, free, ours / free);
+}
+
 int main(void) {
     uint64_t wrong = 0;
     for (int i = 0; i < COUNT; i++) {
@@ -64,13 +79,17 @@ int main(void) {
         wrong += hjoltravan_root(roots[i]) != own_root(roots[i]);
         wrong += hjoltravan_narrow(doubles[i]) != own_narrow(doubles[i]);
     }
-    double ours, own;
+    double ours, called, single, free;
     TIME(hjoltravan_root(roots[i]), ours);
-    TIME(own_root(roots[i]), own);
-    printf("root    %6.2f ns, the processor's %6.2f ns, ratio %.1f\n", ours, own, ours / own);
+    TIME(called_root(roots[i]), called);
+    TIME(alone(own_root(roots[i])), single);
+    TIME(own_root(roots[i]), free);
+    say("root  ", ours, called, single, free);
     TIME(hjoltravan_narrow(doubles[i]), ours);
-    TIME(own_narrow(doubles[i]), own);
-    printf("narrow  %6.2f ns, the processor's %6.2f ns, ratio %.1f\n", ours, own, ours / own);
+    TIME(called_narrow(doubles[i]), called);
+    TIME(alone(own_narrow(doubles[i])), single);
+    TIME(own_narrow(doubles[i]), free);
+    say("narrow", ours, called, single, free);
     printf("different bits: %llu\n", (unsigned long long)wrong);
     return wrong != 0;
 }
