@@ -28,10 +28,11 @@ by-truth true false false ca = refl
 proper-is : (v : ℕ) (f : Face) → proper v f ≡ (not (outside v f) && not (doubled f))
 proper-is v f = by-truth (ltb (f .a) v && ltb (f .b) v && ltb (f .c) v) (eqb (f .a) (f .b)) (eqb (f .b) (f .c)) (eqb (f .c) (f .a))
 
+-- so a face is proper that neither holds of
 proper-of : (v : ℕ) (f : Face) → outside v f ≡ false → doubled f ≡ false → proper v f ≡ true
 proper-of v f o d = proper-is v f ∙ rw (o, d)
 
--- the verdict that lets every face pass
+-- the kinds of verdict: admitted, refused, copied
 abbrev pub admits : Verdict → Bool
 admits (Refused n p) = false
 admits Copied = false
@@ -46,6 +47,7 @@ faces-proper-of v k (f ∷ fs) e =
     let d = past admits (doubled f) (Refused 9 k) _ refl refl (o .1) in
     both (proper-of v f (o .0) (d .0)) (faces-proper-of v (suc k) fs (d .1))
 
+-- and back
 pub faces-admitted : (v k : ℕ) (fs : List Face) → every (proper v) fs ≡ true → faceVerdict v k fs ≡ Admitted
 unfolding faceVerdict every
 faces-admitted v k [] e = refl
