@@ -1,0 +1,10 @@
+-- What follows from the definitions of specs/, and is no code.
+pub mod ListLaws
+pub mod SlotLaws
+pub mod LiveLaws
+pub mod MarkLaws
+pub mod TurnLaws
+pub mod AroundLaws
+pub mod BorderLaws
+pub mod KindLaws
+pub mod CommonLaws
