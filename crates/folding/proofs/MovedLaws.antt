@@ -1,0 +1,56 @@
+-- With keep moved, its quadric added to, and the faces folded, the mesh in memory is the folded mesh.
+-- Assumes nothing.
+use Prim.Native.Nat.{ℕ, _+_, _*_, _≤_, _<_}
+use native.Mathlib.Omega.{arith}
+use mathlib.Core.Path.{_≡_, sym, ap, ap₂, _∙_}
+use mathlib.Core.List.{List, map}
+use lib.Ieee.{Float}
+use lib.ListN.{length, set}
+use Rattle.geometry.specs.declared.Point.{Point}
+use Rattle.geometry.specs.Quadrics.{sum}
+use Rattle.placement.specs.declared.Limit.{Limit}
+use Rattle.placement.specs.declared.pair.Vertex.{Vertex}
+use Rattle.placement.specs.Choices.{kindOf}
+use Rattle.placement.specs.Pairs.{pairPlace, pairQuadric}
+use Rattle.surface.specs.Lists.{below}
+use Rattle.surface.specs.Folding.{foldedMesh}
+use Rattle.mesh.specs.Memory.{kind}
+use Rattle.vertices.specs.Memory.{quadricAt, vertexAt, withPoint, withQuadric, meshOf}
+use Rattle.vertices.specs.Rules.{rulesOf, mergedVertex}
+use Rattle.vertices.proofs.MemoryLaws.{point-length, point-rest, quadric-length, quadric-rest}
+use Rattle.vertices.proofs.BelowLaws.{each-same}
+use Rattle.vertices.proofs.MeshLaws.{mesh-of-parts, mesh-point, mesh-moved}
+use Rattle.folding.specs.Folds.{FacesFolded, MeshFolded}
+
+module _ {v f keep remove gone : ℕ} {w w' : List ℕ} (p q : List Float) (keep-v : keep < v) (remove-v : remove < v)
+    (p-long : 3 * v ≤ length p) (q-long : 10 * v ≤ length q) (h : FacesFolded v f w keep remove w' gone)
+    (place : Point) (limit : Limit) (bound : Float)
+    (placed : place ≡ pairPlace bound (vertexAt v f w p q keep) (vertexAt v f w p q remove)) where
+  -- what keep carries is what the two carried, merged
+  merged : _≡_ {A = Vertex}
+      (record { point = place; quadric = sum (quadricAt q keep) (quadricAt q remove); kind = kindOf (kind v f w keep) })
+      (mergedVertex bound (vertexAt v f w p q keep) (vertexAt v f w p q remove))
+  unfolding mergedVertex pairQuadric
+  merged = rw placed
+
+  pub mesh-folded : {p' q' : List Float} → p' ≡ withPoint p keep place → q' ≡ withQuadric q keep (sum (quadricAt q keep) (quadricAt q remove)) →
+      MeshFolded v f limit bound w p q keep remove w' p' q' gone
+  unfolding meshOf foldedMesh rulesOf
+  mesh-folded {p'} {q'} move add = record {
+    but = h .but;
+    tidy = h .tidy;
+    same-mesh =
+        rw (move, add)
+        (mesh-of-parts _ _ _ _
+        (each-same (vertexAt v f w (withPoint p keep place) (withQuadric q keep (sum (quadricAt q keep) (quadricAt q remove)))) _ v
+        (λ x l. rw (h .but .over (7 * f + v + x) (omega arith)))
+        ∙ mesh-moved v f w p q keep place (sum (quadricAt q keep) (quadricAt q remove)) keep-v p-long q-long
+        ∙ ap (set (map (vertexAt v f w p q) (below v)) keep)
+        (merged ∙ sym (ap₂ (mergedVertex bound) (mesh-point v f w p q keep _ keep-v) (mesh-point v f w p q remove _ remove-v))))
+        (h .same-faces));
+    counted = h .counted;
+    same-length-p = rw move (point-length p keep place);
+    same-length-q = rw add (quadric-length q keep (sum (quadricAt q keep) (quadricAt q remove)));
+    rest-p = rw move (point-rest p keep place v keep-v);
+    rest-q = rw add (quadric-rest q keep (sum (quadricAt q keep) (quadricAt q remove)) v keep-v);
+  }

@@ -1,0 +1,82 @@
+-- A step for each slot of a list that stands in the memory: the turns of such a loop, and the cells that stay.
+-- Assumes nothing.
+use Prim.Native.Nat.{ℕ, _+_, _≤_, _<_}
+use native.Mathlib.Nat.{le-antisymm}
+use native.Mathlib.Numerals.{add-one}
+use native.Mathlib.Omega.{arith}
+use mathlib.Core.Path.{_≡_, refl, sym, ap, subst, _∙_}
+use mathlib.Core.List.{List, [], _∷_, _++_, map-append}
+use mathlib.Core.Bool.{true}
+use lib.Dec.{ltb}
+use lib.ListN.{getD}
+use borrow.Author.Tests.{ltb-true}
+use Rattle.surface.specs.Lists.{every, below}
+use Rattle.surface.proofs.ListLaws.{every-head, every-tail}
+use Rattle.mesh.specs.Memory.{But}
+use Rattle.mesh.specs.Around.{slots}
+use Rattle.mesh.proofs.Frames.{but-refl, but-then}
+use Rattle.mesh.proofs.BelowLaws.{every-at, map-same}
+use Rattle.folding.specs.Steps.{inTurn}
+
+-- a list of slots, one more
+slots-more : (w : List ℕ) (list i : ℕ) → slots w list (i + 1) ≡ slots w list i ++ (getD w (list + i) 0 ∷ [])
+unfolding below
+slots-more w list i = rw add-one (map-append (λ j. getD w (list + j) 0) (below i) (i ∷ []))
+
+-- it stays where its cells stay
+pub slots-but : {lo hi : ℕ} {w w' : List ℕ} (list n : ℕ) → But lo hi w w' → hi ≤ list → slots w' list n ≡ slots w list n
+slots-but {lo} {hi} {w} {w'} list n but above =
+    map-same (λ i. getD w' (list + i) 0) (λ i. getD w (list + i) 0) n (λ i l. but .over (list + i) (omega arith))
+
+module _ (step : ℕ → List ℕ → List ℕ) where
+  -- one slot more has its turn
+  turn-more : (ks : List ℕ) (k : ℕ) (w : List ℕ) → inTurn step (ks ++ (k ∷ [])) w ≡ step k (inTurn step ks w)
+  unfolding inTurn
+  turn-more [] k w = refl
+  turn-more (j ∷ ks) k w = turn-more ks k (step j w)
+
+  -- where each step keeps to some cells, all of them do
+  pub turn-but : {lo hi : ℕ} (f : ℕ) → ((k : ℕ) (w : List ℕ) → k < f → But lo hi w (step k w)) →
+      (ks w : List ℕ) → every (λ k. ltb k f) ks ≡ true → But lo hi w (inTurn step ks w)
+  unfolding inTurn
+  turn-but {lo} {hi} f one [] w all = but-refl lo hi w
+  turn-but f one (k ∷ ks) w all =
+      but-then (one k w (ltb-true k f (every-head (λ j. ltb j f) k ks all)))
+      (turn-but f one ks (step k w) (every-tail (λ j. ltb j f) k ks all))
+
+-- the first i slots of a list have had their turn, and only cells from lo up to hi have changed
+pub record Turning (step : ℕ → List ℕ → List ℕ) (lo hi : ℕ) (w₀ : List ℕ) (list n i : ℕ) (w : List ℕ) : Type 0 where
+  pub most : i ≤ n
+  pub so-far : w ≡ inTurn step (slots w₀ list i) w₀
+  pub but : But lo hi w₀ w
+
+module _ {step : ℕ → List ℕ → List ℕ} {lo hi : ℕ} {w₀ : List ℕ} {list n : ℕ} where
+  -- none yet
+  pub turn-start : Turning step lo hi w₀ list n 0 w₀
+  unfolding inTurn below
+  turn-start = record { most = omega arith; so-far = refl; but = but-refl lo hi w₀ }
+
+  -- the next slot is the one that was in the list at the start, and is one of f
+  pub turn-slot : {i : ℕ} {w : List ℕ} → hi ≤ list → Turning step lo hi w₀ list n i w → getD w (list + i) 0 ≡ getD w₀ (list + i) 0
+  turn-slot {i} {w} above h = h .but .over (list + i) (omega arith)
+
+  pub turn-inside : {f i : ℕ} {w : List ℕ} → hi ≤ list → i < n → every (λ k. ltb k f) (slots w₀ list n) ≡ true →
+      Turning step lo hi w₀ list n i w → getD w (list + i) 0 < f
+  turn-inside {f} {i} {w} above l all h =
+      rw (turn-slot above h) (ltb-true (getD w₀ (list + i) 0) f (every-at (λ k. ltb k f) (λ j. getD w₀ (list + j) 0) n all i l))
+
+  -- it has its turn
+  pub turn-next : {i : ℕ} {w w' : List ℕ} → hi ≤ list → i < n → But lo hi w w' → w' ≡ step (getD w (list + i) 0) w →
+      Turning step lo hi w₀ list n i w → Turning step lo hi w₀ list n (i + 1) w'
+  turn-next {i} {w} {w'} above l but same h = record {
+    most = omega arith;
+    so-far =
+        same
+        ∙ rw (turn-slot above h) (ap (step (getD w₀ (list + i) 0)) (h .so-far))
+        ∙ sym (ap (λ (ks : List ℕ). inTurn step ks w₀) (slots-more w₀ list i) ∙ turn-more step (slots w₀ list i) (getD w₀ (list + i) 0) w₀);
+    but = but-then (h .but) but;
+  }
+
+  -- all have had it
+  pub turn-end : {i : ℕ} {w : List ℕ} → n ≤ i → Turning step lo hi w₀ list n i w → w ≡ inTurn step (slots w₀ list n) w₀
+  turn-end {i} {w} least h = subst (λ (j : ℕ). w ≡ inTurn step (slots w₀ list j) w₀) (le-antisymm (h .most) least) (h .so-far)

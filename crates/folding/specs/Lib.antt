@@ -1,0 +1,3 @@
+-- The fold in lent memory.
+pub mod Steps
+pub mod Folds
