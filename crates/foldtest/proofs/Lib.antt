@@ -1,0 +1,5 @@
+-- What follows from the definitions, and is no code.
+pub mod FairLaws
+pub mod HarmLaws
+pub mod LinkLaws
+pub mod AllowedLaws

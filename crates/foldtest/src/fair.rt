@@ -1,0 +1,87 @@
+// What a fold does to one face.
+ghost use mathlib.Core.Path.{_≡_};
+ghost use Prim.Native.Nat.{_+_, _*_, _<_};
+ghost use lib.ListN.{length};
+ghost use Rattle.geometry.specs.Points.{normal as normalOf};
+ghost use Rattle.vertices.specs.Memory.{pointAt};
+ghost use Rattle.vertices.specs.Rules.{fairNormals};
+ghost use Rattle.foldtest.specs.Fair.{Placed, squashed, turned, movedAt, fairAt};
+use geometry::Point;
+use geometry::normal;
+use surface::Face;
+use vertices::point_at;
+
+// Where a point is after the fold.
+fn moved(p: &[f32], x: u32, keep: u32, remove: u32, place: Point) -> Point
+    requires { ⌜ 3 * x + 2 < length (now p) ⌝ }
+    ensures { λ r. ⌜ r ≡ movedAt (now (p .entry)) keep remove place x ⌝ }
+{
+    if x == keep {
+        return place;
+    }
+    if x == remove {
+        return place;
+    }
+    point_at(p, x as usize)
+}
+
+// A face's normal before the fold.
+fn normal_before(p: &[f32], face: Face) -> Point
+    requires { ⌜ Placed (now p) face ⌝ }
+    ensures { λ r. ⌜ r ≡ normalOf (pointAt (now (p .entry)) (face .a)) (pointAt (now (p .entry)) (face .b)) (pointAt (now (p .entry)) (face .c)) ⌝ }
+{
+    normal(
+        point_at(p, face.a as usize),
+        point_at(p, face.b as usize),
+        point_at(p, face.c as usize),
+    )
+}
+
+// A face's normal after the fold.
+fn normal_after(p: &[f32], face: Face, keep: u32, remove: u32, place: Point) -> Point
+    requires { ⌜ Placed (now p) face ⌝ }
+    ensures { λ r. ⌜ r ≡ normalOf (movedAt (now (p .entry)) keep remove place (face .a)) (movedAt (now (p .entry)) keep remove place (face .b)) (movedAt (now (p .entry)) keep remove place (face .c)) ⌝ }
+{
+    normal(
+        moved(p, face.a, keep, remove, place),
+        moved(p, face.b, keep, remove, place),
+        moved(p, face.c, keep, remove, place),
+    )
+}
+
+// Whether a face is squashed, by the norms of its normal before and after. A norm that is no number passes no test, so it counts as squashed.
+fn is_squashed(before: f32, after: f32) -> bool
+    ensures { λ r. ⌜ r ≡ squashed before after ⌝ }
+{
+    !(after > 0.000001 * before)
+}
+
+// Whether a face is turned over, by the norms and the dot of its normals before and after.
+fn is_turned(before: f32, after: f32, dot: f32) -> bool
+    ensures { λ r. ⌜ r ≡ turned before after dot ⌝ }
+{
+    !(dot > 0.01 * before * after)
+}
+
+// Whether a face with these normals is neither squashed nor turned over. Each norm is worked out once.
+fn are_fair(before: Point, after: Point) -> bool
+    ensures { λ r. ⌜ r ≡ fairNormals before after ⌝ }
+{
+    let b = before.norm();
+    let a = after.norm();
+    if is_squashed(b, a) {
+        return false;
+    }
+    !is_turned(b, a, before.dot(after))
+}
+
+// Whether the fold neither squashes a face nor turns it over.
+pub fn is_fair(p: &[f32], face: Face, keep: u32, remove: u32, place: Point) -> bool
+    requires { ⌜ Placed (now p) face ⌝ }
+    ensures { λ r. ⌜ r ≡ fairAt (now (p .entry)) keep remove place face ⌝ }
+{
+    are_fair(
+        normal_before(p, face),
+        normal_after(p, face, keep, remove, place),
+    )
+}
