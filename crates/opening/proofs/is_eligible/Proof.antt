@@ -1,0 +1,19 @@
+-- `opening::is_eligible` meets its contract: it is asked of the two vertices that were read.
+-- Assumes nothing.
+use mathlib.Core.Path.{ap₂, _∙_}
+use borrow.Author.Needs.{needs}
+use Rattle.placement.specs.Pairs.{eligible}
+use Rattle.opening.specs.Waiting.{fits}
+use Rattle.opening.proofs.is_eligible.Statement.{statement}
+use Rattle.opening.proofs.is_eligible.Tie as tie
+
+returns : tie.Need-returns
+unfolding fits
+returns c =
+    let goes = c .before in
+    let stays = goes .before in
+    let given = stays .before .before .before .before .args in
+    c .pair-eligible .ensures ∙ ap₂ (eligible (given .limit) (given .bound)) (stays .vertex-at .ensures) (goes .vertex-at2 .ensures)
+
+pub is-eligible-spec : {M : Type 1} → statement M
+is-eligible-spec = tie.close (tie.spec (λ c κs. search needs) (λ c κs. search needs) (λ c κs. search needs) returns)

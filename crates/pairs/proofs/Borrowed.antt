@@ -1,0 +1,28 @@
+-- Laws of the crate mesh (its proofs/Frames), as they stand there.
+-- Assumes nothing.
+use Prim.Native.Nat.{ℕ, _≤_, _<_}
+use native.Mathlib.Omega.{arith}
+use mathlib.Core.Path.{refl, _∙_}
+use mathlib.Core.List.{List}
+use lib.ListN.{set, length-set}
+use lib.Seq.{getD-set-other}
+use Rattle.mesh.specs.Memory.{But}
+
+pub but-refl : (lo hi : ℕ) (w : List ℕ) → But lo hi w w
+but-refl lo hi w = record { same-length = refl; under = λ i l. refl; over = λ i l. refl }
+
+-- one change after another
+pub but-then : {lo hi : ℕ} {w w' w'' : List ℕ} → But lo hi w w' → But lo hi w' w'' → But lo hi w w''
+but-then p q = record {
+  same-length = q .same-length ∙ p .same-length;
+  under = λ i l. q .under i l ∙ p .under i l;
+  over = λ i l. q .over i l ∙ p .over i l;
+}
+
+-- one cell
+pub but-set : (lo hi : ℕ) (w : List ℕ) (i a : ℕ) → lo ≤ i → i < hi → But lo hi w (set w i a)
+but-set lo hi w i a low high = record {
+  same-length = length-set w i a;
+  under = λ j l. getD-set-other w i j a 0 (omega arith);
+  over = λ j l. getD-set-other w i j a 0 (omega arith);
+}

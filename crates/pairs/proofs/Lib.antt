@@ -1,0 +1,7 @@
+pub mod Borrowed
+pub mod BelowLaws
+pub mod OpenLaws
+pub mod DropLaws
+pub mod RankLaws
+pub mod MeshLaws
+pub mod LeastLaws

@@ -1,0 +1,4 @@
+-- The open pairs in lent memory.
+pub mod Memory
+pub mod Ranks
+pub mod Changes

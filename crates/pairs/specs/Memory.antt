@@ -1,0 +1,24 @@
+-- The open pairs in the lent u32 memory: n of them, keep in the cells from 7F + 4V on and remove in those from 10F + 4V on.
+use Prim.Native.Nat.{ℕ, _+_, _*_}
+use mathlib.Core.List.{List, map}
+use lib.ListN.{getD}
+use lib.Ieee.{Float}
+use Rattle.placement.specs.declared.pair.Vertex.{Vertex}
+use Rattle.surface.specs.declared.Pair.{Pair}
+use Rattle.surface.specs.Lists.{below}
+use Rattle.surface.specs.Walk.{State, pairOf}
+use Rattle.vertices.specs.Memory.{meshOf}
+
+-- the pair in a place of the list
+abbrev pub pairAt : ℕ → ℕ → List ℕ → ℕ → Pair
+pairAt v f w i = pairOf (getD w (7 * f + 4 * v + i) 0) (getD w (10 * f + 4 * v + i) 0)
+
+-- the open pairs, in the order in which they stand
+unfoldable pub openPairs : ℕ → ℕ → List ℕ → ℕ → List Pair
+unfolding below
+openPairs v f w n = map (pairAt v f w) (below n)
+
+-- the walk's state in memory
+unfoldable pub stateOf : ℕ → ℕ → List ℕ → List Float → List Float → ℕ → State Vertex
+unfolding meshOf openPairs
+stateOf v f w p q n = record { mesh = meshOf v f w p q; «open» = openPairs v f w n }

@@ -1,0 +1,3 @@
+-- The output.
+pub mod Written
+pub mod Numbering
