@@ -3,6 +3,68 @@ ghost use mathlib.Core.Path.{_≡_};
 ghost use Rattle.bits.specs.Root.{rootBits};
 ghost use Rattle.bits.specs.Narrow.{narrowBits};
 ghost use Rattle.bits.specs.Order.{orderKey};
+ghost use Rattle.thinning.specs.Entry.{inputOf};
+ghost use Rattle.hjoltravan.specs.Calls.{limitOf, fiveOf, Called};
+use placement::Limit;
+use thinning::Answer;
+
+// A limit only where there is one.
+fn limit_of(limited: bool, limit: f32) -> Limit
+    ensures { λ r. ⌜ r ≡ limitOf limited limit ⌝ }
+{
+    if limited { Limit::AtMost(limit) } else { Limit::Unlimited }
+}
+
+// An answer as five numbers.
+fn tell(answer: &mut [u32; 5], r: Answer)
+    ensures { λ _. ⌜ now (answer .exit) ≡ fiveOf r ⌝ }
+{
+    *answer = [r.number, r.place, r.points, r.faces, r.folds];
+}
+
+// Thins a mesh by the plain walk.
+#[no_mangle]
+pub extern "C" fn hjoltravan_thin_plain(
+    points: &[f32],
+    faces: &[u32],
+    ratio: f32,
+    preserve: bool,
+    limited: bool,
+    limit: f32,
+    out_points: &mut [f32],
+    out_faces: &mut [u32],
+    work_u32: &mut [u32],
+    work_f32: &mut [f32],
+    work_f64: &mut [f64],
+    answer: &mut [u32; 5],
+)
+    ensures { λ _. ⌜ Called (inputOf (now (points .entry)) (now (faces .entry)) ratio (limitOf limited limit) (now («out_points» .entry)) (now («out_faces» .entry)) (now («work_u32» .entry)) (now («work_f32» .entry)) (now («work_f64» .entry))) preserve (now («out_points» .entry)) (now («out_faces» .entry)) (now («work_u32» .entry)) (now («work_f32» .entry)) (now («work_f64» .entry)) (now («out_points» .exit)) (now («out_faces» .exit)) (now («work_u32» .exit)) (now («work_f32» .exit)) (now («work_f64» .exit)) (now (answer .exit)) ⌝ }
+{
+    let most = limit_of(limited, limit);
+    let r = thinning::thin_plain(points, faces, ratio, preserve, most, out_points, out_faces, work_u32, work_f32, work_f64);
+    tell(answer, r);
+}
+
+// Thins a mesh. The plain walk does it today, with the statement that stays.
+#[no_mangle]
+pub extern "C" fn hjoltravan_thin(
+    points: &[f32],
+    faces: &[u32],
+    ratio: f32,
+    preserve: bool,
+    limited: bool,
+    limit: f32,
+    out_points: &mut [f32],
+    out_faces: &mut [u32],
+    work_u32: &mut [u32],
+    work_f32: &mut [f32],
+    work_f64: &mut [f64],
+    answer: &mut [u32; 5],
+)
+    ensures { λ _. ⌜ Called (inputOf (now (points .entry)) (now (faces .entry)) ratio (limitOf limited limit) (now («out_points» .entry)) (now («out_faces» .entry)) (now («work_u32» .entry)) (now («work_f32» .entry)) (now («work_f64» .entry))) preserve (now («out_points» .entry)) (now («out_faces» .entry)) (now («work_u32» .entry)) (now («work_f32» .entry)) (now («work_f64» .entry)) (now («out_points» .exit)) (now («out_faces» .exit)) (now («work_u32» .exit)) (now («work_f32» .exit)) (now («work_f64» .exit)) (now (answer .exit)) ⌝ }
+{
+    hjoltravan_thin_plain(points, faces, ratio, preserve, limited, limit, out_points, out_faces, work_u32, work_f32, work_f64, answer);
+}
 
 // The square root of an f32, on bit patterns.
 #[no_mangle]

@@ -1,0 +1,2 @@
+-- The C interface's statement.
+pub mod Calls

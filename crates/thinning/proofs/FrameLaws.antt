@@ -1,0 +1,69 @@
+-- What is past the stages' own cells stays as it came, and what is stated is zero at the end.
+-- Assumes nothing.
+use Prim.Native.Nat.{ℕ, _+_, _*_, _-_, _≤_, _<_}
+use native.Mathlib.Omega.{arith}
+use mathlib.Core.Path.{_≡_, sym, ap, _∙_}
+use mathlib.Core.List.{List, _++_}
+use lib.Ieee.{Float}
+use lib.ListN.{length, drop, replicate, length-append, length-replicate, length-drop}
+use lib.Seq.{ext-getD, getD-drop, drop-drop}
+use Rattle.geometry.specs.Constants.{nought}
+use Rattle.mesh.specs.Memory.{Room, But}
+use Rattle.mesh.proofs.Frames.{but-then}
+use Rattle.walks.specs.Steps.{Within}
+use Rattle.thinning.specs.Stages.{Working, Zeroed}
+
+-- cells past a change
+rest-but : {hi : ℕ} {w w' : List ℕ} (n : ℕ) → But 0 hi w w' → hi ≤ n → drop n w' ≡ drop n w
+rest-but {hi} {w} {w'} n but past =
+    ext-getD 0 (drop n w') (drop n w) (length-drop n w' ∙ ap (λ k. k - n) (but .same-length) ∙ sym (length-drop n w))
+    (λ i l. getD-drop n w' i 0 ∙ but .over (n + i) (omega arith) ∙ sym (getD-drop n w i 0))
+
+-- two memories that agree from m on agree further on
+rest-more : {A : Type 0} (p' p : List A) (m n : ℕ) → m ≤ n → drop m p' ≡ drop m p → drop n p' ≡ drop n p
+rest-more p' p m n past same =
+    let there : m + (n - m) ≡ n = omega arith in
+    ap (λ k. drop k p') (sym there)
+    ∙ sym (drop-drop (n - m) m p')
+    ∙ ap (drop (n - m)) same
+    ∙ drop-drop (n - m) m p
+    ∙ ap (λ k. drop k p) there
+
+-- one change after another
+pub within-then : {v f : ℕ} {w w₁ w₂ : List ℕ} {p q p₁ q₁ p₂ q₂ : List Float} →
+    Within v f w p q w₁ p₁ q₁ → Within v f w₁ p₁ q₁ w₂ p₂ q₂ → Within v f w p q w₂ p₂ q₂
+within-then a b = record {
+  but = but-then (a .but) (b .but);
+  same-length-p = b .same-length-p ∙ a .same-length-p;
+  same-length-q = b .same-length-q ∙ a .same-length-q;
+  rest-p = b .rest-p ∙ a .rest-p;
+  rest-q = b .rest-q ∙ a .rest-q;
+}
+
+-- the room stays
+pub working-within : {v f : ℕ} {w w₁ : List ℕ} {p q p₁ q₁ : List Float} →
+    Working v f w p q → Within v f w p q w₁ p₁ q₁ → Working v f w₁ p₁ q₁
+working-within {v} {f} {w} {w₁} room within =
+    let but = within .but in
+    record { u32s = record { points-few = omega arith; faces-few = omega arith; long = omega arith }; f32s = omega arith; f64s = omega arith }
+
+-- what is past the stated part is past the stages' own cells
+pub zeroed-within : {v f : ℕ} {w w₁ w' : List ℕ} {p q p₁ q₁ p' q' : List Float} →
+    Within v f w p q w₁ p₁ q₁ → Zeroed v f w₁ p₁ q₁ w' p' q' → Zeroed v f w p q w' p' q'
+zeroed-within {v} {f} {w} {w₁} {w'} {p} {q} {p₁} {q₁} within zeroed = record {
+  u32s = zeroed .u32s ∙ ap (λ (rest : List ℕ). replicate (16 * v + 32 * f) 0 ++ rest) (rest-but (16 * v + 32 * f) (within .but) (omega arith));
+  f32s = zeroed .f32s ∙ ap (λ (rest : List Float). replicate (4 * v + 12 * f) nought ++ rest) (rest-more p₁ p (3 * v) (4 * v + 12 * f) (omega arith) (within .rest-p));
+  f64s = zeroed .f64s ∙ ap (λ (rest : List Float). replicate (16 * v + 6 * f) nought ++ rest) (rest-more q₁ q (10 * v) (16 * v + 6 * f) (omega arith) (within .rest-q));
+}
+
+-- no memory grows or shrinks
+length-over : {A : Type 0} (n : ℕ) (zero : A) (cells : List A) → n ≤ length cells → length (replicate n zero ++ drop n cells) ≡ length cells
+length-over n zero cells fits = omega (arith, length-append (replicate n zero) (drop n cells), length-replicate n zero, length-drop n cells)
+
+pub zeroed-lengths : {v f : ℕ} {w w' : List ℕ} {p q p' q' : List Float} → Working v f w p q → Zeroed v f w p q w' p' q' →
+    (length w' ≡ length w) × (length p' ≡ length p) × (length q' ≡ length q)
+zeroed-lengths {v} {f} {w} {w'} {p} {q} room zeroed = (
+  ap length (zeroed .u32s) ∙ length-over (16 * v + 32 * f) 0 w (room .u32s .long),
+  ap length (zeroed .f32s) ∙ length-over (4 * v + 12 * f) nought p (room .f32s),
+  ap length (zeroed .f64s) ∙ length-over (16 * v + 6 * f) nought q (room .f64s),
+)

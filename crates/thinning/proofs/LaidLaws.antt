@@ -1,0 +1,62 @@
+-- Laying a mesh out comes to the mesh at the start, in the stages' own cells.
+-- Assumes nothing.
+use Prim.Native.Nat.{ℕ, _+_, _*_, _≤_, _<_}
+use native.Mathlib.Omega.{arith}
+use mathlib.Core.Path.{_≡_, refl, ap, _∙_}
+use mathlib.Core.List.{List, map}
+use mathlib.Core.Bool.{Bool, true, false, cond}
+use lib.Ieee.{Float}
+use lib.ListN.{length}
+use Rattle.geometry.specs.Quadrics.{zeroQuadric}
+use Rattle.surface.specs.declared.Face.{Face}
+use Rattle.surface.specs.Lists.{every, below}
+use Rattle.surface.specs.Faces.{proper, facesOf, borderPoint, borderCount}
+use Rattle.mesh.specs.Memory.{Room, faceAt, liveFaces, But}
+use Rattle.mesh.specs.Laid.{Laid, Bordered}
+use Rattle.mesh.proofs.Frames.{but-then, but-widen}
+use Rattle.mesh.proofs.Sums.{count-most}
+use Rattle.vertices.specs.Memory.{withPoints}
+use Rattle.vertices.specs.Start.{gathered}
+use Rattle.vertices.specs.Laying.{QuadricsAre}
+use Rattle.vertices.proofs.BelowLaws.{length-each}
+use Rattle.vertices.proofs.LayLaws.{points-length, points-rest}
+use Rattle.vertices.proofs.StartLaws.{bordered-laid, slots-proper, mesh-laid}
+use Rattle.walks.specs.Steps.{Within}
+use Rattle.thinning.specs.Stages.{Working, LaidOut}
+
+module _ (points : List Float) {v f n : ℕ} {faces : List ℕ} {preserve : Bool} {w w₁ w₂ : List ℕ} {p q : List Float}
+    (room : Working v f w p q) (points-long : length points ≡ 3 * v) (all-proper : every (proper v) (facesOf f faces) ≡ true)
+    (laid : Laid v f faces w w₁) (bordered : Bordered v f preserve w₁ w₂ n) where
+  -- what laying the quadrics asks
+  pub quadrics-asked : {p₁ : List Float} → p₁ ≡ withPoints v points p →
+      Room v f w₂ × (((k : ℕ) → k < f → proper v (faceAt w₂ k) ≡ true) × ((3 * v ≤ length p₁) × (10 * v ≤ length q)))
+  quadrics-asked copied = (
+    bordered .tidy .room,
+    (slots-proper f faces w₂ (bordered-laid laid bordered) v all-proper,
+    (rw (copied, points-length v points p (omega arith) (omega arith)) (omega arith), omega arith)),
+  )
+
+  -- what is laid out then
+  pub laid-out : {p₁ q₁ : List Float} → p₁ ≡ withPoints v points p →
+      QuadricsAre v (λ x. gathered p₁ x zeroQuadric (map (faceAt w₂) (below f))) q q₁ → LaidOut v f points faces preserve w p q w₂ p₁ q₁ n
+  laid-out copied quadrics =
+      let same : liveFaces f w₂ ≡ facesOf f faces = bordered-laid laid bordered in
+      record {
+        tidy = bordered .tidy;
+        within = record {
+          but = but-then (but-widen (omega arith) (omega arith) (laid .but)) (but-widen (omega arith) (omega arith) (bordered .but));
+          same-length-p = ap length copied ∙ points-length v points p (omega arith) (omega arith);
+          same-length-q = quadrics .same-length;
+          rest-p = rw copied (points-rest v points p (omega arith));
+          rest-q = quadrics .rest;
+        };
+        same-mesh = mesh-laid v f points faces preserve all-proper w₂ p laid bordered (omega arith) copied same quadrics;
+        all-live = ap length same ∙ length-each _ f;
+        counted = bordered .counted ∙ ap (λ (fs : List Face). cond preserve (borderCount v fs) 0) (laid .same-faces);
+      }
+
+-- at most v points are on the border
+pub borders-few : (v : ℕ) (faces : List Face) (preserve : Bool) → cond preserve (borderCount v faces) 0 ≤ v
+unfolding borderCount
+borders-few v faces true = count-most (borderPoint v faces) v
+borders-few v faces false = omega arith

@@ -1,0 +1,75 @@
+-- The faces of a tidy memory: how many they are, and that the parts of their points are those of the mesh.
+-- Assumes nothing.
+use Prim.Native.Nat.{ℕ, _*_, _≤_, _<_}
+use native.Mathlib.Omega.{arith}
+use mathlib.Core.Path.{_≡_, refl, ap, _∙_}
+use mathlib.Core.List.{List, [], _∷_}
+use mathlib.Core.Bool.{Bool, true, not, _&&_}
+use lib.Dec.{ltb, eqb}
+use lib.Ieee.{Float}
+use lib.ListN.{length, length-map}
+use borrow.Author.Tests.{ltb-true, lt-ltb}
+use Rattle.placement.specs.declared.pair.Vertex.{Vertex}
+use Rattle.surface.specs.declared.Face.{Face}
+use Rattle.surface.specs.Lists.{every, those, below}
+use Rattle.surface.specs.Faces.{proper}
+use Rattle.surface.specs.Rules.{Rules}
+use Rattle.surface.specs.Renumber.{used}
+use Rattle.surface.proofs.TestLaws.{left-of}
+use Rattle.surface.proofs.SumLaws.{every-from, every-implies, length-below, getD-below}
+use Rattle.surface.proofs.ListLaws.{every-head, every-tail, every-those, every-map, length-those}
+use Rattle.surface.proofs.RenumberLaws.{corners, used-every, length-used-below}
+use Rattle.mesh.specs.Memory.{faceAt, lives, liveFaces}
+use Rattle.mesh.specs.Chains.{Tidy}
+use Rattle.mesh.proofs.Sums.{count-most}
+use Rattle.vertices.specs.Memory.{meshOf, partsOf}
+use Rattle.vertices.proofs.MeshLaws.{mesh-point}
+use Rattle.thinning.specs.Outcomes.{partsIn}
+
+-- the numbers below n are below n
+all-below : (n : ℕ) → every (λ x. ltb x n) (below n) ≡ true
+all-below n = every-from (λ x. ltb x n) 0 (below n) (λ i l. let i-n : i < n = rw length-below at l in rw (getD-below n i i-n) (lt-ltb i n i-n))
+
+module _ {v f : ℕ} {w : List ℕ} (tidy : Tidy v f w) where
+  -- the points of the live faces are below v
+  live-below : every (corners (λ x. ltb x v)) (liveFaces f w) ≡ true
+  unfolding liveFaces
+  live-below =
+      every-map (corners (λ x. ltb x v)) (faceAt w) (those (lives f w) (below f))
+      ∙ every-those (λ k. ltb k f) (lives f w)
+      (λ k l live. left-of _ _ (left-of _ _ (left-of _ _ (tidy .faces-proper k (ltb-true k f l) live))))
+      (below f) (all-below f)
+
+  -- so are the numbers written, and there are at most v
+  used-below : every (λ x. ltb x v) (used [] (liveFaces f w)) ≡ true
+  unfolding every
+  used-below = used-every (λ x. ltb x v) [] (liveFaces f w) refl live-below
+
+  pub used-few : length (used [] (liveFaces f w)) ≤ v
+  used-few = length-used-below v (liveFaces f w) live-below
+
+  -- at most f faces are live
+  pub live-few : length (liveFaces f w) ≤ f
+  unfolding liveFaces
+  live-few =
+      omega (
+        arith,
+        length-map (those (lives f w) (below f)) (faceAt w),
+        length-those (lives f w) (below f),
+        count-most (lives f w) f,
+      )
+
+-- the parts of points in memory are those of the mesh that it holds
+parts-same : (rules : Rules Vertex) (v f : ℕ) (w : List ℕ) (p q : List Float) (xs : List ℕ) →
+    every (λ x. ltb x v) xs ≡ true → partsOf p xs ≡ partsIn rules (meshOf v f w p q) xs
+unfolding partsOf partsIn
+parts-same rules v f w p q [] all = refl
+parts-same rules v f w p q (x ∷ xs) all =
+    rw (
+      mesh-point v f w p q x (rules .blank) (ltb-true x v (every-head (λ x. ltb x v) x xs all)),
+      parts-same rules v f w p q xs (every-tail (λ x. ltb x v) x xs all),
+    )
+
+pub parts-written : (rules : Rules Vertex) {v f : ℕ} {w : List ℕ} (p q : List Float) → Tidy v f w →
+    partsOf p (used [] (liveFaces f w)) ≡ partsIn rules (meshOf v f w p q) (used [] (liveFaces f w))
+parts-written rules {v} {f} {w} p q tidy = parts-same rules v f w p q (used [] (liveFaces f w)) (used-below tidy)

@@ -1,0 +1,32 @@
+-- The outcome of an input that is refused, and of one that is copied.
+-- Assumes nothing.
+use Prim.Native.Nat.{ℕ}
+use mathlib.Core.Path.{_≡_, refl, sym, ap, _∙_}
+use mathlib.Core.List.{List}
+use mathlib.Core.Bool.{Bool}
+use lib.Ieee.{Float}
+use Rattle.checks.specs.declared.Verdict.{Verdict}
+use Rattle.checks.specs.declared.Verdict.the-variants.{Refused, Copied}
+use Rattle.checks.specs.Verdicts.{Input, pointsIn, facesIn, verdictOf}
+use Rattle.thinning.specs.declared.Answer.{Answer}
+use Rattle.thinning.specs.Outcomes.{refusal, Outcome, outcomeBy, outcome}
+use Rattle.thinning.specs.Entry.{Leaves, Answered}
+use Rattle.thinning.specs.Stages.{copyOf}
+
+-- the outcome is that of the verdict
+outcome-of : (i : Input) (preserve : Bool) {d : Verdict} → d ≡ verdictOf i → outcomeBy d i preserve ≡ outcome i preserve
+unfolding outcome
+outcome-of i preserve e = ap (λ (d : Verdict). outcomeBy d i preserve) e
+
+-- refused: nothing is written
+pub refused : (i : Input) (preserve : Bool) (n place : ℕ) (points : List Float) (faces u : List ℕ) (p q : List Float) (r : Answer) →
+    Refused n place ≡ verdictOf i → r ≡ refusal n place → Answered i preserve points faces u p q points faces u p q r
+unfolding outcomeBy
+refused i preserve n place points faces u p q r e answer =
+    rw (sym (outcome-of i preserve e))
+    (record { answered = answer; points-out = refl; faces-out = refl; u32s-left = refl; f32s-left = refl; f64s-left = refl })
+
+-- copied
+pub copied : (i : Input) (preserve : Bool) → Copied ≡ verdictOf i → copyOf (pointsIn i) (facesIn i) (i .points) (i .faces) ≡ outcome i preserve
+unfolding outcomeBy
+copied i preserve e = outcome-of i preserve e

@@ -1,0 +1,97 @@
+-- The walk of an admitted mesh, from what stands in memory to what document 01 says of the input.
+-- Assumes nothing.
+use Prim.Native.Nat.{ℕ, _+_, _≤_}
+use native.Mathlib.Omega.{arith}
+use mathlib.Core.Path.{_≡_, refl, sym, ap, ap₂, _∙_}
+use mathlib.Core.List.{List, []}
+use mathlib.Core.Bool.{Bool, true, false, _&&_, cond}
+use lib.Dec.{ltb, eqb}
+use lib.Ieee.{Float}
+use lib.ListN.{length}
+use Rattle.placement.specs.declared.pair.Vertex.{Vertex}
+use Rattle.surface.specs.declared.Face.{Face}
+use Rattle.surface.specs.Lists.{every}
+use Rattle.surface.specs.Faces.{proper, facesOf}
+use Rattle.surface.specs.Folding.{Mesh}
+use Rattle.surface.specs.Walk.{State, started, walk, foldList, budget}
+use Rattle.surface.specs.Renumber.{used, renumbered, numbersOf}
+use Rattle.surface.specs.Sound.{Sound}
+use Rattle.surface.proofs.TestLaws.{by-test}
+use Rattle.surface.proofs.SoundLaws.{started-sound}
+use Rattle.surface.proofs.WalkLaws.{walk-fewer}
+use Rattle.mesh.specs.Memory.{liveFaces}
+use Rattle.mesh.specs.Chains.{Tidy}
+use Rattle.vertices.specs.Memory.{meshOf, partsOf}
+use Rattle.vertices.specs.Start.{startMesh}
+use Rattle.vertices.proofs.BelowLaws.{length-each}
+use Rattle.walks.specs.declared.Walked.{Walked}
+use Rattle.walks.specs.Whole.{WalkDone}
+use Rattle.checks.specs.declared.Verdict.{Verdict}
+use Rattle.checks.specs.declared.Verdict.the-variants.{Admitted}
+use Rattle.checks.specs.Verdicts.{Input, pointsIn, facesIn, verdictOf}
+use Rattle.checks.specs.Facts.{Admissible}
+use Rattle.thinning.specs.Outcomes.{rulesIn, startOf, targetOf, lastMesh, foldsMade, bordersHeld, partsIn, Outcome, outcomeBy, outcome}
+use Rattle.thinning.specs.Stages.{LaidOut, stuckOutcome, outcomeIn}
+use Rattle.thinning.proofs.MemoryLaws.{parts-written}
+
+-- ---- folds
+
+-- each fold has killed a face, so there are at most as many as faces
+pub folds-few : (i : Input) (preserve : Bool) → Admissible i → foldsMade i preserve ≤ facesIn i
+unfolding foldsMade startOf started startMesh
+folds-few i preserve fine =
+    let m : Mesh Vertex = startMesh (pointsIn i) (facesIn i) (i .points) (i .faces) preserve in
+    let as-many : length (m .points) ≡ pointsIn i = length-each _ (pointsIn i) in
+    let sound : Sound (startOf i preserve) =
+    started-sound (rulesIn i) m (ap (λ (v : ℕ). every (proper v) (m .faces)) as-many ∙ fine .faces-proper) in
+    let faces : length (m .faces) ≡ facesIn i = length-each _ (facesIn i) in
+    omega (arith, walk-fewer (rulesIn i) (targetOf i) (budget (facesIn i) (startOf i preserve)) (startOf i preserve) sound)
+
+-- ---- the outcome hangs on the target, the border points, the folds, the faces left and the parts of their points
+
+abbrev outcomeFrom : ℕ → ℕ → ℕ → ℕ → List Face → List Float → Outcome
+outcomeFrom f target borders folds faces parts =
+    cond (eqb folds 0 && ltb target f) (stuckOutcome borders)
+    (record {
+      answer = record { number = 0; place = 0; points = length (used [] faces); faces = length faces; folds = folds };
+      points = parts;
+      faces = numbersOf (renumbered faces);
+      worked = true
+    })
+
+same-outcome : (f : ℕ) {t t' b b' n n' : ℕ} {fs fs' : List Face} {ps ps' : List Float} →
+    t ≡ t' → b ≡ b' → n ≡ n' → fs ≡ fs' → ps ≡ ps' → outcomeFrom f t b n fs ps ≡ outcomeFrom f t' b' n' fs' ps'
+same-outcome f e1 e2 e3 e4 e5 = rw (e1, e2, e3, e4, e5)
+
+-- it works in the memory
+pub outcome-worked : (f target borders folds : ℕ) (u : List ℕ) (p : List Float) → outcomeIn f target borders folds u p .worked ≡ true
+outcome-worked f target borders folds u p =
+    by-test (eqb folds 0 && ltb target f) (λ t. rw t) (λ t. rw t)
+
+-- ---- the last mesh
+
+-- the walk from a mesh that is the start's
+module _ (i : Input) (preserve : Bool) {target borders : ℕ} {u w w' : List ℕ} {pu qu p q p' q' : List Float} {r : Walked} (aim : target ≡ targetOf i)
+    (laid : LaidOut (pointsIn i) (facesIn i) (i .points) (i .faces) preserve u pu qu w p q borders)
+    (done : WalkDone (pointsIn i) (facesIn i) w p q target (i .limit) (i .bound) w' p' q' r) where
+  last-mesh : meshOf (pointsIn i) (facesIn i) w' p' q' ≡ lastMesh i preserve
+  unfolding lastMesh startOf
+  last-mesh = done .same-mesh ∙ rw (laid .same-mesh, aim)
+
+  pub folds-made : r .folds ≡ foldsMade i preserve
+  unfolding foldsMade startOf
+  folds-made = done .same-folds ∙ rw (laid .same-mesh, aim)
+
+  -- ---- the outcome
+
+  -- the outcome of the mesh in memory is the input's
+  pub outcome-is : Tidy (pointsIn i) (facesIn i) w' → verdictOf i ≡ Admitted →
+      outcomeIn (facesIn i) target borders (r .folds) w' p' ≡ outcome i preserve
+  unfolding meshOf outcome outcomeBy
+  outcome-is tidy verdict =
+      let same : liveFaces (facesIn i) w' ≡ lastMesh i preserve .faces = ap (λ (m : Mesh Vertex). m .faces) last-mesh in
+      let parts : partsOf p' (used [] (liveFaces (facesIn i) w')) ≡ partsIn (rulesIn i) (lastMesh i preserve) (used [] (lastMesh i preserve .faces)) =
+      parts-written (rulesIn i) p' q' tidy
+      ∙ ap₂ (λ (m : Mesh Vertex) (fs : List Face). partsIn (rulesIn i) m (used [] fs)) last-mesh same in
+      same-outcome (facesIn i) aim (laid .counted) folds-made same parts
+      ∙ ap (λ (d : Verdict). outcomeBy d i preserve) (sym verdict)

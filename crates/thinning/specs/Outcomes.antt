@@ -1,0 +1,102 @@
+-- The answer of a call and what comes out, for any input (document 01, "Answer numbers" and "Pairs, folds, ends").
+use Prim.Native.Nat.{ℕ}
+use mathlib.Core.List.{List, [], _∷_}
+use mathlib.Core.Bool.{Bool, true, false, _&&_, cond}
+use lib.Dec.{ltb, eqb}
+use lib.ListN.{length, getD}
+use lib.Ieee.{Float}
+use Rattle.bits.specs.Cut.{target}
+use Rattle.placement.specs.declared.pair.Vertex.{Vertex}
+use Rattle.surface.specs.Faces.{facesOf, borderCount}
+use Rattle.surface.specs.Rules.{Rules}
+use Rattle.surface.specs.Folding.{Mesh}
+use Rattle.surface.specs.Walk.{State, started, walk, foldList, budget}
+use Rattle.surface.specs.Renumber.{used, renumbered, numbersOf}
+use Rattle.vertices.specs.Start.{startMesh}
+use Rattle.vertices.specs.Rules.{rulesOf}
+use Rattle.checks.specs.declared.Verdict.{Verdict}
+use Rattle.checks.specs.declared.Verdict.the-variants.{Refused, Copied, Admitted}
+use Rattle.checks.specs.Verdicts.{Input, pointsIn, facesIn, verdictOf}
+use Rattle.thinning.specs.declared.Answer.{Answer}
+
+-- ---- the walk of an admitted mesh
+
+abbrev pub rulesIn : Input → Rules Vertex
+rulesIn i = rulesOf (i .limit) (i .bound)
+
+-- the state at the start, and the number of faces to reach
+unfoldable pub startOf : Input → Bool → State Vertex
+startOf i preserve = started (rulesIn i) (startMesh (pointsIn i) (facesIn i) (i .points) (i .faces) preserve)
+
+unfoldable pub targetOf : Input → ℕ
+targetOf i = target (i .ratio) (facesIn i)
+
+-- the mesh at the end and the number of folds, on a budget that is always enough
+unfoldable pub lastMesh : Input → Bool → Mesh Vertex
+lastMesh i preserve = (walk (rulesIn i) (targetOf i) (budget (facesIn i) (startOf i preserve)) (startOf i preserve)) .mesh
+
+unfoldable pub foldsMade : Input → Bool → ℕ
+foldsMade i preserve = length (foldList (rulesIn i) (targetOf i) (budget (facesIn i) (startOf i preserve)) (startOf i preserve))
+
+-- no fold was made, and there are more faces than the target
+abbrev pub stuck : Input → Bool → Bool
+stuck i preserve = eqb (foldsMade i preserve) 0 && ltb (targetOf i) (facesIn i)
+
+-- the border points of the input, where they are preserved
+abbrev pub bordersHeld : Input → Bool → ℕ
+bordersHeld i preserve = cond preserve (borderCount (pointsIn i) (facesOf (facesIn i) (i .faces))) 0
+
+-- ---- what comes out
+
+-- the parts of the points of a list of numbers, three to a point
+unfoldable pub partsIn : Rules Vertex → Mesh Vertex → List ℕ → List Float
+partsIn rules m [] = []
+partsIn rules m (x ∷ xs) =
+    getD (m .points) x (rules .blank) .point .x
+    ∷ getD (m .points) x (rules .blank) .point .y
+    ∷ getD (m .points) x (rules .blank) .point .z
+    ∷ partsIn rules m xs
+
+-- An answer, the parts of points and the numbers of faces written, and whether the work memory is zeroed.
+pub record Outcome : Type 0 where
+  pub answer : Answer
+  pub points : List Float
+  pub faces : List ℕ
+  pub worked : Bool
+
+-- a refusal has zeros in the last three
+abbrev pub refusal : ℕ → ℕ → Answer
+refusal number place = record { number = number; place = place; points = 0; faces = 0; folds = 0 }
+
+-- 10 where border points are held, and else 11
+abbrev pub stuckAnswer : ℕ → Answer
+stuckAnswer borders = cond (ltb 0 borders) (refusal 10 borders) (refusal 11 0)
+
+-- live faces in face order, points numbered by first use
+abbrev pub thinnedOutcome : Input → Bool → Outcome
+thinnedOutcome i preserve =
+    let faces = lastMesh i preserve .faces in
+    record {
+      answer = record { number = 0; place = 0; points = length (used [] faces); faces = length faces; folds = foldsMade i preserve };
+      points = partsIn (rulesIn i) (lastMesh i preserve) (used [] faces);
+      faces = numbersOf (renumbered faces);
+      worked = true
+    }
+
+-- the outcome of an input, by what the checks say of it
+unfoldable pub outcomeBy : Verdict → Input → Bool → Outcome
+outcomeBy (Refused number place) i preserve = record { answer = refusal number place; points = []; faces = []; worked = false }
+outcomeBy Copied i preserve =
+    record {
+      answer = record { number = 0; place = 0; points = pointsIn i; faces = facesIn i; folds = 0 };
+      points = i .points;
+      faces = i .faces;
+      worked = true
+    }
+outcomeBy Admitted i preserve =
+    cond (stuck i preserve)
+    (record { answer = stuckAnswer (bordersHeld i preserve); points = []; faces = []; worked = true })
+    (thinnedOutcome i preserve)
+
+unfoldable pub outcome : Input → Bool → Outcome
+outcome i preserve = outcomeBy (verdictOf i) i preserve

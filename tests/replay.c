@@ -1,0 +1,360 @@
+/* Runs the library on stored cases and compares its answers with the stored
+   ones: the five numbers, the bits of the outputs, and every other cell that
+   was lent.
+
+       replay [MOST_FACES] < cases
+
+   The plain walk takes part up to MOST_FACES faces (300 unless given), and in
+   every refusal. The file is described in oracle/src/case.rs. */
+
+#include "hjoltravan.h"
+#include <signal.h>
+#include <stdio.h>
+#include <stdlib.h>
+#include <string.h>
+
+enum { GUARD = 16, MOST_FAMILIES = 64, MAGIC = 0x31636a68 };
+
+static void stop(const char *why)
+{
+    fprintf(stderr, "replay: %s\n", why);
+    exit(2);
+}
+
+static void *room(void *old, size_t words)
+{
+    void *cells = realloc(old, words * sizeof(uint32_t));
+    if (!cells)
+        stop("no memory");
+    return cells;
+}
+
+/* ---- Lent memory ---- */
+
+/* A buffer of 32-bit cells with guard cells on both sides. */
+struct lent {
+    uint32_t *cells;
+    size_t length, room;
+    uint32_t salt;
+};
+
+/* What a cell holds before the call. Read as floats, most are NaNs, quiet and
+   signalling; a library that computes with what it finds there shows it. */
+static uint32_t pattern(uint32_t salt, size_t place)
+{
+    uint32_t mixed = ((uint32_t)place + salt) * 2654435761u;
+    mixed ^= mixed >> 15;
+    switch (mixed & 3) {
+    case 0: return 0xffffffffu;
+    case 1: return 0x7f800001u | mixed >> 12;
+    case 2: return 0x7ff40000u | mixed >> 16;
+    default: return mixed;
+    }
+}
+
+static void lend(struct lent *lent, size_t length, uint32_t salt)
+{
+    lent->length = length;
+    lent->salt = salt;
+    if (lent->room < length + 2 * GUARD) {
+        lent->room = length + 2 * GUARD;
+        lent->cells = room(lent->cells, lent->room);
+    }
+    for (size_t i = 0; i < length + 2 * GUARD; i++)
+        lent->cells[i] = pattern(salt, i);
+}
+
+static uint32_t *start(const struct lent *lent)
+{
+    return lent->cells + GUARD;
+}
+
+/* Whether the cells from `used` on are as they were lent, and the guards. */
+static bool untouched_from(const struct lent *lent, size_t used)
+{
+    for (size_t i = 0; i < lent->length + 2 * GUARD; i++) {
+        if (i == GUARD)
+            i += used;
+        if (lent->cells[i] != pattern(lent->salt, i))
+            return false;
+    }
+    return true;
+}
+
+static bool zero_up_to(const struct lent *lent, size_t used)
+{
+    for (size_t i = 0; i < used; i++)
+        if (start(lent)[i])
+            return false;
+    return true;
+}
+
+static bool holds(const struct lent *lent, const uint32_t *list, size_t stored, size_t length)
+{
+    for (size_t i = 0; i < length; i++)
+        if (start(lent)[i] != list[i % stored])
+            return false;
+    return true;
+}
+
+static void fill(struct lent *lent, const uint32_t *list, size_t stored)
+{
+    for (size_t i = 0; i < lent->length; i++)
+        start(lent)[i] = list[i % stored];
+}
+
+/* ---- Cases ---- */
+
+enum { FAMILY, RATIO, OPTIONS, LIMIT, POINTS_LEN, FACES_LEN,
+       OUT_POINTS_LEN, OUT_FACES_LEN, WORK_U32_LEN, WORK_F32_LEN, WORK_F64_LEN,
+       NUMBER, PLACE, POINTS_OUT, FACES_OUT, FOLDS,
+       POINTS, FACES, OUT_POINTS, OUT_FACES, FOLD_LIST, HEAD };
+
+/* The words of a case, and where its five lists begin. */
+struct one {
+    uint32_t *word;
+    const uint32_t *list[5];
+    size_t words;
+    unsigned long number;
+};
+
+static bool read_words(uint32_t *words, size_t count)
+{
+    size_t got = fread(words, sizeof(uint32_t), count, stdin);
+    if (got && got < count)
+        stop("the file is cut short");
+    return got == count;
+}
+
+static bool read_case(struct one *c, size_t *space)
+{
+    uint32_t words;
+    if (!read_words(&words, 1))
+        return false;
+    if (words < HEAD)
+        stop("a case is too short");
+    if (*space < words)
+        c->word = room(c->word, *space = words);
+    if (!read_words(c->word, words))
+        stop("the file is cut short");
+    c->words = words;
+    c->number++;
+    const uint32_t *next = c->word + HEAD;
+    for (int i = 0; i < 5; i++) {
+        c->list[i] = next;
+        next += c->word[POINTS + i];
+    }
+    if (next != c->word + words)
+        stop("the lists of a case don't fit");
+    return true;
+}
+
+static float float_of(uint32_t bits)
+{
+    float value;
+    memcpy(&value, &bits, sizeof value);
+    return value;
+}
+
+/* ---- A call, and what it left behind ---- */
+
+typedef void thin_function(HJOLTRAVAN_PARAMETERS);
+
+static struct lent points, faces, out_points, out_faces, work_u32, work_f32, work_f64, answer;
+
+static void call(thin_function *thin, const struct one *c)
+{
+    const uint32_t *w = c->word;
+    uint32_t salt = (uint32_t)c->number * 40503u;
+    lend(&points, w[POINTS_LEN], salt);
+    lend(&faces, w[FACES_LEN], salt + 1);
+    lend(&out_points, w[OUT_POINTS_LEN], salt + 2);
+    lend(&out_faces, w[OUT_FACES_LEN], salt + 3);
+    lend(&work_u32, w[WORK_U32_LEN], salt + 4);
+    lend(&work_f32, w[WORK_F32_LEN], salt + 5);
+    lend(&work_f64, 2 * (size_t)w[WORK_F64_LEN], salt + 6);
+    lend(&answer, 5, salt + 7);
+    fill(&points, c->list[0], w[POINTS]);
+    fill(&faces, c->list[1], w[FACES]);
+    thin((float *)start(&points), points.length, start(&faces), faces.length,
+         float_of(w[RATIO]), w[OPTIONS] & 1, w[OPTIONS] >> 1 & 1, float_of(w[LIMIT]),
+         (float *)start(&out_points), out_points.length,
+         start(&out_faces), out_faces.length,
+         start(&work_u32), work_u32.length, (float *)start(&work_f32), work_f32.length,
+         (double *)start(&work_f64), work_f64.length / 2, start(&answer));
+}
+
+static const char *const answer_part[5] = {
+    "answer number", "place", "points out", "faces out", "folds"
+};
+
+/* Whether the first cells are zero and the others as they were lent. */
+static bool cleared(const struct lent *lent, size_t stated)
+{
+    return zero_up_to(lent, stated) && untouched_from(lent, stated);
+}
+
+/* Whether an input is as it was given. */
+static bool kept(const struct lent *lent, const uint32_t *list, size_t stored)
+{
+    return holds(lent, list, stored, lent->length) && untouched_from(lent, lent->length);
+}
+
+/* The first thing that differs, or null. */
+static const char *difference(const struct one *c)
+{
+    const uint32_t *w = c->word;
+    bool done = w[NUMBER] == 0, refused = w[NUMBER] >= 1 && w[NUMBER] <= 9;
+    size_t point_cells = done ? 3 * (size_t)w[POINTS_OUT] : 0;
+    size_t face_cells = done ? 3 * (size_t)w[FACES_OUT] : 0;
+    /* The stated part of the work memory is cleared unless refused. */
+    size_t v = refused ? 0 : w[POINTS_LEN] / 3, f = refused ? 0 : w[FACES_LEN] / 3;
+
+    for (int i = 0; i < 5; i++)
+        if (start(&answer)[i] != w[NUMBER + i])
+            return answer_part[i];
+    if (!holds(&out_points, c->list[2], w[OUT_POINTS], point_cells))
+        return "output points";
+    if (!holds(&out_faces, c->list[3], w[OUT_FACES], face_cells))
+        return "output faces";
+    if (!untouched_from(&out_points, point_cells))
+        return "output points past the part used";
+    if (!untouched_from(&out_faces, face_cells))
+        return "output faces past the part used";
+    if (!cleared(&work_u32, 16 * v + 32 * f))
+        return "u32 work memory";
+    if (!cleared(&work_f32, 4 * v + 12 * f))
+        return "f32 work memory";
+    if (!cleared(&work_f64, 2 * (16 * v + 6 * f)))
+        return "f64 work memory";
+    if (!kept(&points, c->list[0], w[POINTS]))
+        return "input points";
+    if (!kept(&faces, c->list[1], w[FACES]))
+        return "input faces";
+    if (!untouched_from(&answer, 5))
+        return "cells beside the answer";
+    return NULL;
+}
+
+/* ---- Telling ---- */
+
+static void print_list(const char *name, const uint32_t *list, size_t stored, size_t length,
+                       int per_line, const char *format)
+{
+    printf("%s (%zu)\n", name, length);
+    for (size_t i = 0; i < length && i < 300; i++) {
+        printf(format, list[i % stored]);
+        if ((i + 1) % per_line == 0)
+            printf("\n");
+    }
+    printf(length > 300 ? "...\n" : length % per_line ? "\n" : "");
+}
+
+static void print_case(const struct one *c, const char *what, const char *entry,
+                       const uint32_t got[5])
+{
+    const uint32_t *w = c->word;
+    printf("case %lu, by %s: %s\n", c->number, entry, what);
+    printf("ratio %08x preserve %u limited %u limit %08x\n",
+           w[RATIO], w[OPTIONS] & 1, w[OPTIONS] >> 1 & 1, w[LIMIT]);
+    printf("lent %u %u %u %u %u\n", w[OUT_POINTS_LEN], w[OUT_FACES_LEN],
+           w[WORK_U32_LEN], w[WORK_F32_LEN], w[WORK_F64_LEN]);
+    printf("expected answer %u place %u points %u faces %u folds %u\n",
+           w[NUMBER], w[PLACE], w[POINTS_OUT], w[FACES_OUT], w[FOLDS]);
+    printf("got      answer %u place %u points %u faces %u folds %u\n",
+           got[0], got[1], got[2], got[3], got[4]);
+    print_list("points", c->list[0], w[POINTS], w[POINTS_LEN], 3, "%08x ");
+    print_list("faces", c->list[1], w[FACES], w[FACES_LEN], 3, "%u ");
+    size_t points_out = w[POINTS_OUT], faces_out = w[FACES_OUT], folds = w[FOLDS];
+    print_list("expected points", c->list[2], w[OUT_POINTS], 3 * points_out, 3, "%08x ");
+    print_list("expected faces", c->list[3], w[OUT_FACES], 3 * faces_out, 3, "%u ");
+    print_list("expected folds", c->list[4], w[FOLD_LIST], 2 * folds, 2, "%u ");
+}
+
+/* The smallest case that differs so far. */
+static struct {
+    struct one one;
+    const char *what, *entry;
+    uint32_t got[5];
+} smallest;
+
+static size_t size_of(const struct one *c)
+{
+    return (size_t)c->word[POINTS_LEN] + c->word[FACES_LEN];
+}
+
+static void keep_if_smallest(const struct one *c, const char *what, const char *entry)
+{
+    if (smallest.what && size_of(&smallest.one) <= size_of(c))
+        return;
+    struct one copy = *c;
+    copy.word = room(smallest.one.word, c->words);
+    memcpy(copy.word, c->word, c->words * sizeof(uint32_t));
+    for (int i = 0; i < 5; i++)
+        copy.list[i] = copy.word + (c->list[i] - c->word);
+    smallest.one = copy;
+    smallest.what = what;
+    smallest.entry = entry;
+    memcpy(smallest.got, start(&answer), sizeof smallest.got);
+}
+
+static bool differs(thin_function *thin, const char *entry, const struct one *c)
+{
+    call(thin, c);
+    const char *what = difference(c);
+    if (what)
+        keep_if_smallest(c, what, entry);
+    return what;
+}
+
+static struct one c;
+
+/* A library that falls over in a case ends the run; say at least in which. */
+static void fell(int signal)
+{
+    fprintf(stderr, "replay: signal %d in case %lu\n", signal, c.number);
+    _Exit(3);
+}
+
+int main(int count, char **argument)
+{
+    signal(SIGSEGV, fell);
+    signal(SIGILL, fell);
+    signal(SIGABRT, fell);
+    size_t plain_most = count > 1 ? strtoul(argument[1], NULL, 10) : 300;
+    uint32_t head[2];
+    char name[MOST_FAMILIES][17] = { { 0 } };
+    if (!read_words(head, 2) || head[0] != MAGIC || head[1] > MOST_FAMILIES)
+        stop("this is no file of cases");
+    for (uint32_t i = 0; i < head[1]; i++)
+        if (!fread(name[i], 16, 1, stdin))
+            stop("the file is cut short");
+
+    unsigned long cases[MOST_FAMILIES] = { 0 }, wrong[MOST_FAMILIES] = { 0 };
+    unsigned long all = 0, all_wrong = 0, plain = 0;
+    for (size_t space = 0; read_case(&c, &space);) {
+        uint32_t family = c.word[FAMILY];
+        if (family >= head[1])
+            stop("a case of no family");
+        bool wrong_here = differs(hjoltravan_thin, "hjoltravan_thin", &c);
+        bool refused = c.word[NUMBER] >= 1 && c.word[NUMBER] <= 9;
+        if (refused || c.word[FACES_LEN] / 3 <= plain_most) {
+            wrong_here |= differs(hjoltravan_thin_plain, "hjoltravan_thin_plain", &c);
+            plain++;
+        }
+        cases[family]++;
+        wrong[family] += wrong_here;
+        all++;
+        all_wrong += wrong_here;
+    }
+    for (uint32_t i = 0; i < head[1]; i++)
+        if (cases[i])
+            printf("%-16s %8lu cases %8lu differ\n", name[i], cases[i], wrong[i]);
+    printf("%-16s %8lu cases %8lu differ\n", "all", all, all_wrong);
+    printf("%lu of the cases were run by the plain walk too\n", plain);
+    if (smallest.what) {
+        printf("The smallest that differs: family %s, ", name[smallest.one.word[FAMILY]]);
+        print_case(&smallest.one, smallest.what, smallest.entry, smallest.got);
+    }
+    return all_wrong != 0;
+}
