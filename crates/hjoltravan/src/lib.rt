@@ -12,7 +12,11 @@ use thinning::Answer;
 fn limit_of(limited: bool, limit: f32) -> Limit
     ensures { λ r. ⌜ r ≡ limitOf limited limit ⌝ }
 {
-    if limited { Limit::AtMost(limit) } else { Limit::Unlimited }
+    if limited {
+        Limit::AtMost(limit)
+    } else {
+        Limit::Unlimited
+    }
 }
 
 // An answer as five numbers.
@@ -41,7 +45,18 @@ pub extern "C" fn hjoltravan_thin_plain(
     ensures { λ _. ⌜ Called (inputOf (now (points .entry)) (now (faces .entry)) ratio (limitOf limited limit) (now («out_points» .entry)) (now («out_faces» .entry)) (now («work_u32» .entry)) (now («work_f32» .entry)) (now («work_f64» .entry))) preserve (now («out_points» .entry)) (now («out_faces» .entry)) (now («work_u32» .entry)) (now («work_f32» .entry)) (now («work_f64» .entry)) (now («out_points» .exit)) (now («out_faces» .exit)) (now («work_u32» .exit)) (now («work_f32» .exit)) (now («work_f64» .exit)) (now (answer .exit)) ⌝ }
 {
     let most = limit_of(limited, limit);
-    let r = thinning::thin_plain(points, faces, ratio, preserve, most, out_points, out_faces, work_u32, work_f32, work_f64);
+    let r = thinning::thin_plain(
+        points,
+        faces,
+        ratio,
+        preserve,
+        most,
+        out_points,
+        out_faces,
+        work_u32,
+        work_f32,
+        work_f64,
+    );
     tell(answer, r);
 }
 
@@ -63,7 +78,20 @@ pub extern "C" fn hjoltravan_thin(
 )
     ensures { λ _. ⌜ Called (inputOf (now (points .entry)) (now (faces .entry)) ratio (limitOf limited limit) (now («out_points» .entry)) (now («out_faces» .entry)) (now («work_u32» .entry)) (now («work_f32» .entry)) (now («work_f64» .entry))) preserve (now («out_points» .entry)) (now («out_faces» .entry)) (now («work_u32» .entry)) (now («work_f32» .entry)) (now («work_f64» .entry)) (now («out_points» .exit)) (now («out_faces» .exit)) (now («work_u32» .exit)) (now («work_f32» .exit)) (now («work_f64» .exit)) (now (answer .exit)) ⌝ }
 {
-    hjoltravan_thin_plain(points, faces, ratio, preserve, limited, limit, out_points, out_faces, work_u32, work_f32, work_f64, answer);
+    hjoltravan_thin_plain(
+        points,
+        faces,
+        ratio,
+        preserve,
+        limited,
+        limit,
+        out_points,
+        out_faces,
+        work_u32,
+        work_f32,
+        work_f64,
+        answer,
+    );
 }
 
 // The square root of an f32, on bit patterns.

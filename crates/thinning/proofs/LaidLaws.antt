@@ -32,8 +32,10 @@ module _ (points : List Float) {v f n : ℕ} {faces : List ℕ} {preserve : Bool
       Room v f w₂ × (((k : ℕ) → k < f → proper v (faceAt w₂ k) ≡ true) × ((3 * v ≤ length p₁) × (10 * v ≤ length q)))
   quadrics-asked copied = (
     bordered .tidy .room,
-    (slots-proper f faces w₂ (bordered-laid laid bordered) v all-proper,
-    (rw (copied, points-length v points p (omega arith) (omega arith)) (omega arith), omega arith)),
+    (
+      slots-proper f faces w₂ (bordered-laid laid bordered) v all-proper,
+      (rw (copied, points-length v points p (omega arith) (omega arith)) (omega arith), omega arith),
+    ),
   )
 
   -- what is laid out then

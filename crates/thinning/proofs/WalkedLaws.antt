@@ -56,7 +56,7 @@ outcomeFrom f target borders folds faces parts =
       answer = record { number = 0; place = 0; points = length (used [] faces); faces = length faces; folds = folds };
       points = parts;
       faces = numbersOf (renumbered faces);
-      worked = true
+      worked = true;
     })
 
 same-outcome : (f : ℕ) {t t' b b' n n' : ℕ} {fs fs' : List Face} {ps ps' : List Float} →

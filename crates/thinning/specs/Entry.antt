@@ -27,7 +27,7 @@ inputOf points faces ratio limit out-points out-faces u p q =
       rooms = record { points = length out-points; faces = length out-faces; u32s = length u; f32s = length p; f64s = length q };
       ratio = ratio;
       limit = limit;
-      bound = largest
+      bound = largest;
     }
 
 -- the first n cells are zero and the rest is as it came, where the memory was worked in; else all is as it came

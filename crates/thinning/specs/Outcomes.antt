@@ -80,7 +80,7 @@ thinnedOutcome i preserve =
       answer = record { number = 0; place = 0; points = length (used [] faces); faces = length faces; folds = foldsMade i preserve };
       points = partsIn (rulesIn i) (lastMesh i preserve) (used [] faces);
       faces = numbersOf (renumbered faces);
-      worked = true
+      worked = true;
     }
 
 -- the outcome of an input, by what the checks say of it
@@ -91,7 +91,7 @@ outcomeBy Copied i preserve =
       answer = record { number = 0; place = 0; points = pointsIn i; faces = facesIn i; folds = 0 };
       points = i .points;
       faces = i .faces;
-      worked = true
+      worked = true;
     }
 outcomeBy Admitted i preserve =
     cond (stuck i preserve)

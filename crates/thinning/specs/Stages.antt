@@ -68,7 +68,7 @@ thinnedIn f folds u p =
       answer = record { number = 0; place = 0; points = length (used [] faces); faces = length faces; folds = folds };
       points = partsOf p (used [] faces);
       faces = numbersOf (renumbered faces);
-      worked = true
+      worked = true;
     }
 
 -- stuck where no fold was made and there are more faces than the target

@@ -175,7 +175,17 @@ fn admitted(
     let target = bits::cut::target(ratio, f as u32) as usize;
     let borders = laid_out(points, faces, preserve, w, p, q, v, f);
     let walked = walks::plain_walk(w, p, q, v, f, target, limit, BOUND);
-    let answer = finished(w, p, v, f, target, borders, walked.folds, out_points, out_faces);
+    let answer = finished(
+        w,
+        p,
+        v,
+        f,
+        target,
+        borders,
+        walked.folds,
+        out_points,
+        out_faces,
+    );
     clear(w, p, q, v, f);
     answer
 }
@@ -216,7 +226,16 @@ pub fn thin_plain(
             work_f64,
         ),
         Verdict::Admitted => admitted(
-            points, faces, ratio, preserve, limit, out_points, out_faces, work_u32, work_f32, work_f64,
+            points,
+            faces,
+            ratio,
+            preserve,
+            limit,
+            out_points,
+            out_faces,
+            work_u32,
+            work_f32,
+            work_f64,
         ),
     }
 }

@@ -81,12 +81,19 @@ finished-requires c κs =
     let before = laid (stage .before) in
     let start = begun (before .before .before .before .before) in
     let known = fine start .sized in
-    let done = stage .plain-walk .ensures in
-    (done .tidy,
-    (points-stay (input start) (start .args .preserve) (start .pre) (room start) (before .laid-out .ensures) (aim (before .before .before .before .before)) done,
-    (known .room-points,
-    (known .room-faces,
-    counts-few (input start) (start .args .preserve) (start .pre) (room start) (before .laid-out .ensures) (aim (before .before .before .before .before)) done))))
+    let done = stage .plain-walk .ensures in (
+      done .tidy,
+      (
+        points-stay (input start) (start .args .preserve) (start .pre) (room start) (before .laid-out .ensures) (aim (before .before .before .before .before)) done,
+        (
+          known .room-points,
+          (
+            known .room-faces,
+            counts-few (input start) (start .args .preserve) (start .pre) (room start) (before .laid-out .ensures) (aim (before .before .before .before .before)) done,
+          ),
+        ),
+      ),
+    )
 
 clear-requires : tie.Need-clear-requires
 clear-requires c κs =

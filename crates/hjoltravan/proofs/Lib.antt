@@ -1,0 +1,2 @@
+-- What the calls through C share.
+mod CallLaws
