@@ -2,7 +2,7 @@
 
        narrow_many [COUNT [SEED]]     (a hundred million unless given) */
 
-#include "hjoltravan.h"
+#include "../include/hjoltravan.h"
 #include <inttypes.h>
 #include <stdio.h>
 #include <stdlib.h>

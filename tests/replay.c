@@ -7,7 +7,7 @@
    The plain walk takes part up to MOST_FACES faces (300 unless given), and in
    every refusal. The file is described in oracle/src/case.rs. */
 
-#include "hjoltravan.h"
+#include "../include/hjoltravan.h"
 #include <signal.h>
 #include <stdio.h>
 #include <stdlib.h>
@@ -158,7 +158,7 @@ static float float_of(uint32_t bits)
 
 /* ---- A call, and what it left behind ---- */
 
-typedef void thin_function(HJOLTRAVAN_PARAMETERS);
+typedef __typeof__(hjoltravan_thin) thin_function;
 
 static struct lent points, faces, out_points, out_faces, work_u32, work_f32, work_f64, answer;
 

@@ -3,7 +3,7 @@
 
        root_all [FIRST LAST [STRIDE]]     (hexadecimal, LAST included) */
 
-#include "hjoltravan.h"
+#include "../include/hjoltravan.h"
 #include <inttypes.h>
 #include <stdio.h>
 #include <stdlib.h>

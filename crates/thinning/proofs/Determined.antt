@@ -7,7 +7,7 @@ use mathlib.Core.Bool.{Bool}
 use lib.Ieee.{Float}
 use Rattle.checks.specs.Verdicts.{Input}
 use Rattle.thinning.specs.declared.Answer.{Answer}
-use Rattle.thinning.specs.Entry.{Leaves, Answered}
+use Rattle.thinning.specs.Entry.{Answered}
 
 -- two calls on the same input and buffers, which they leave as r with points₁ .. q₁ and as s with points₂ .. q₂
 pub record Same (r s : Answer) (points₁ points₂ : List Float) (faces₁ faces₂ u₁ u₂ : List ℕ) (p₁ p₂ q₁ q₂ : List Float) : Type 0 where

@@ -1,6 +1,6 @@
 -- What is past the stages' own cells stays as it came, and what is stated is zero at the end.
 -- Assumes nothing.
-use Prim.Native.Nat.{ℕ, _+_, _*_, _-_, _≤_, _<_}
+use Prim.Native.Nat.{ℕ, _+_, _*_, _-_, _≤_}
 use native.Mathlib.Omega.{arith}
 use mathlib.Core.Path.{_≡_, sym, ap, _∙_}
 use mathlib.Core.List.{List, _++_}
@@ -8,7 +8,7 @@ use lib.Ieee.{Float}
 use lib.ListN.{length, drop, replicate, length-append, length-replicate, length-drop}
 use lib.Seq.{ext-getD, getD-drop, drop-drop}
 use Rattle.geometry.specs.Constants.{nought}
-use Rattle.mesh.specs.Memory.{Room, But}
+use Rattle.mesh.specs.Memory.{But}
 use Rattle.mesh.proofs.Frames.{but-then}
 use Rattle.walks.specs.Steps.{Within}
 use Rattle.thinning.specs.Stages.{Working, Zeroed}

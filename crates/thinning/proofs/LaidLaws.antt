@@ -1,8 +1,8 @@
 -- Laying a mesh out comes to the mesh at the start, in the stages' own cells.
 -- Assumes nothing.
-use Prim.Native.Nat.{ℕ, _+_, _*_, _≤_, _<_}
+use Prim.Native.Nat.{ℕ, _*_, _≤_, _<_}
 use native.Mathlib.Omega.{arith}
-use mathlib.Core.Path.{_≡_, refl, ap, _∙_}
+use mathlib.Core.Path.{_≡_, ap, _∙_}
 use mathlib.Core.List.{List, map}
 use mathlib.Core.Bool.{Bool, true, false, cond}
 use lib.Ieee.{Float}
@@ -11,7 +11,7 @@ use Rattle.geometry.specs.Quadrics.{zeroQuadric}
 use Rattle.surface.specs.declared.Face.{Face}
 use Rattle.surface.specs.Lists.{every, below}
 use Rattle.surface.specs.Faces.{proper, facesOf, borderPoint, borderCount}
-use Rattle.mesh.specs.Memory.{Room, faceAt, liveFaces, But}
+use Rattle.mesh.specs.Memory.{Room, faceAt, liveFaces}
 use Rattle.mesh.specs.Laid.{Laid, Bordered}
 use Rattle.mesh.proofs.Frames.{but-then, but-widen}
 use Rattle.mesh.proofs.Sums.{count-most}
@@ -21,7 +21,6 @@ use Rattle.vertices.specs.Laying.{QuadricsAre}
 use Rattle.vertices.proofs.BelowLaws.{length-each}
 use Rattle.vertices.proofs.LayLaws.{points-length, points-rest}
 use Rattle.vertices.proofs.StartLaws.{bordered-laid, slots-proper, mesh-laid}
-use Rattle.walks.specs.Steps.{Within}
 use Rattle.thinning.specs.Stages.{Working, LaidOut}
 
 module _ (points : List Float) {v f n : ℕ} {faces : List ℕ} {preserve : Bool} {w w₁ w₂ : List ℕ} {p q : List Float}

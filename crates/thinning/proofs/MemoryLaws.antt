@@ -1,22 +1,20 @@
 -- The faces of a tidy memory: how many they are, and that the parts of their points are those of the mesh.
 -- Assumes nothing.
-use Prim.Native.Nat.{ℕ, _*_, _≤_, _<_}
+use Prim.Native.Nat.{ℕ, _≤_, _<_}
 use native.Mathlib.Omega.{arith}
-use mathlib.Core.Path.{_≡_, refl, ap, _∙_}
+use mathlib.Core.Path.{_≡_, refl, _∙_}
 use mathlib.Core.List.{List, [], _∷_}
-use mathlib.Core.Bool.{Bool, true, not, _&&_}
-use lib.Dec.{ltb, eqb}
+use mathlib.Core.Bool.{true}
+use lib.Dec.{ltb}
 use lib.Ieee.{Float}
 use lib.ListN.{length, length-map}
 use borrow.Author.Tests.{ltb-true, lt-ltb}
 use Rattle.placement.specs.declared.pair.Vertex.{Vertex}
-use Rattle.surface.specs.declared.Face.{Face}
 use Rattle.surface.specs.Lists.{every, those, below}
-use Rattle.surface.specs.Faces.{proper}
 use Rattle.surface.specs.Rules.{Rules}
 use Rattle.surface.specs.Renumber.{used}
 use Rattle.surface.proofs.TestLaws.{left-of}
-use Rattle.surface.proofs.SumLaws.{every-from, every-implies, length-below, getD-below}
+use Rattle.surface.proofs.SumLaws.{every-from, length-below, getD-below}
 use Rattle.surface.proofs.ListLaws.{every-head, every-tail, every-those, every-map, length-those}
 use Rattle.surface.proofs.RenumberLaws.{corners, used-every, length-used-below}
 use Rattle.mesh.specs.Memory.{faceAt, lives, liveFaces}
@@ -24,7 +22,10 @@ use Rattle.mesh.specs.Chains.{Tidy}
 use Rattle.mesh.proofs.Sums.{count-most}
 use Rattle.vertices.specs.Memory.{meshOf, partsOf}
 use Rattle.vertices.proofs.MeshLaws.{mesh-point}
+use Rattle.renumbering.specs.declared.Counts.{Counts}
+use Rattle.renumbering.specs.Written.{Written}
 use Rattle.thinning.specs.Outcomes.{partsIn}
+use Rattle.thinning.specs.Stages.{thinnedIn, Finished}
 
 -- the numbers below n are below n
 all-below : (n : ℕ) → every (λ x. ltb x n) (below n) ≡ true
@@ -73,3 +74,16 @@ parts-same rules v f w p q (x ∷ xs) all =
 pub parts-written : (rules : Rules Vertex) {v f : ℕ} {w : List ℕ} (p q : List Float) → Tidy v f w →
     partsOf p (used [] (liveFaces f w)) ≡ partsIn rules (meshOf v f w p q) (used [] (liveFaces f w))
 parts-written rules {v} {f} {w} p q tidy = parts-same rules v f w p q (used [] (liveFaces f w)) (used-below tidy)
+
+-- what was written is the outcome of the mesh in memory
+pub written-finished : {v f : ℕ} (folds : ℕ) {w w' : List ℕ} {p points points' : List Float} {faces faces' : List ℕ} {r : Counts} →
+    Written v f w p points faces w' points' faces' r →
+    Finished v f (thinnedIn f folds w p) w points faces w' points' faces'
+    (record { number = 0; place = 0; points = r .points; faces = r .faces; folds = folds })
+written-finished folds out =
+    record {
+      but = out .but;
+      answered = rw (out .points-counted, out .faces-counted);
+      points-out = out .points-out;
+      faces-out = out .faces-out;
+    }

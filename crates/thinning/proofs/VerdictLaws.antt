@@ -1,7 +1,7 @@
 -- The outcome of an input that is refused, and of one that is copied.
 -- Assumes nothing.
 use Prim.Native.Nat.{ℕ}
-use mathlib.Core.Path.{_≡_, refl, sym, ap, _∙_}
+use mathlib.Core.Path.{_≡_, refl, sym, ap}
 use mathlib.Core.List.{List}
 use mathlib.Core.Bool.{Bool}
 use lib.Ieee.{Float}
@@ -9,8 +9,8 @@ use Rattle.checks.specs.declared.Verdict.{Verdict}
 use Rattle.checks.specs.declared.Verdict.the-variants.{Refused, Copied}
 use Rattle.checks.specs.Verdicts.{Input, pointsIn, facesIn, verdictOf}
 use Rattle.thinning.specs.declared.Answer.{Answer}
-use Rattle.thinning.specs.Outcomes.{refusal, Outcome, outcomeBy, outcome}
-use Rattle.thinning.specs.Entry.{Leaves, Answered}
+use Rattle.thinning.specs.Outcomes.{refusal, outcomeBy, outcome}
+use Rattle.thinning.specs.Entry.{Answered}
 use Rattle.thinning.specs.Stages.{copyOf}
 
 -- the outcome is that of the verdict

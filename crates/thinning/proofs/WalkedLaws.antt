@@ -1,19 +1,19 @@
 -- The walk of an admitted mesh, from what stands in memory to what document 01 says of the input.
 -- Assumes nothing.
-use Prim.Native.Nat.{ℕ, _+_, _≤_}
+use Prim.Native.Nat.{ℕ, _≤_}
 use native.Mathlib.Omega.{arith}
-use mathlib.Core.Path.{_≡_, refl, sym, ap, ap₂, _∙_}
+use mathlib.Core.Path.{_≡_, sym, ap, ap₂, _∙_}
 use mathlib.Core.List.{List, []}
-use mathlib.Core.Bool.{Bool, true, false, _&&_, cond}
+use mathlib.Core.Bool.{Bool, true, _&&_, cond}
 use lib.Dec.{ltb, eqb}
 use lib.Ieee.{Float}
 use lib.ListN.{length}
 use Rattle.placement.specs.declared.pair.Vertex.{Vertex}
 use Rattle.surface.specs.declared.Face.{Face}
 use Rattle.surface.specs.Lists.{every}
-use Rattle.surface.specs.Faces.{proper, facesOf}
+use Rattle.surface.specs.Faces.{proper}
 use Rattle.surface.specs.Folding.{Mesh}
-use Rattle.surface.specs.Walk.{State, started, walk, foldList, budget}
+use Rattle.surface.specs.Walk.{started, walk, budget}
 use Rattle.surface.specs.Renumber.{used, renumbered, numbersOf}
 use Rattle.surface.specs.Sound.{Sound}
 use Rattle.surface.proofs.TestLaws.{by-test}
@@ -30,7 +30,7 @@ use Rattle.checks.specs.declared.Verdict.{Verdict}
 use Rattle.checks.specs.declared.Verdict.the-variants.{Admitted}
 use Rattle.checks.specs.Verdicts.{Input, pointsIn, facesIn, verdictOf}
 use Rattle.checks.specs.Facts.{Admissible}
-use Rattle.thinning.specs.Outcomes.{rulesIn, startOf, targetOf, lastMesh, foldsMade, bordersHeld, partsIn, Outcome, outcomeBy, outcome}
+use Rattle.thinning.specs.Outcomes.{rulesIn, startOf, targetOf, lastMesh, foldsMade, partsIn, Outcome, outcomeBy, outcome}
 use Rattle.thinning.specs.Stages.{LaidOut, stuckOutcome, outcomeIn}
 use Rattle.thinning.proofs.MemoryLaws.{parts-written}
 

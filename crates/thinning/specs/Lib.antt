@@ -2,3 +2,4 @@
 pub mod Outcomes
 pub mod Entry
 pub mod Stages
+pub mod Examples

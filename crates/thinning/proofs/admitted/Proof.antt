@@ -11,14 +11,13 @@ use Rattle.thinning.specs.Outcomes.{targetOf}
 use Rattle.thinning.specs.Entry.{inputOf}
 use Rattle.thinning.specs.Stages.{Working}
 use Rattle.thinning.proofs.FrameLaws.{zeroed-lengths}
-use Rattle.thinning.proofs.SizeLaws as sizes
+use Rattle.thinning.proofs.SizeLaws.{working}
 use Rattle.thinning.proofs.AdmittedLaws.{walk-asked, points-stay, counts-few, clear-asked, zeroed-all, left}
 use Rattle.thinning.proofs.admitted.Statement.{statement}
 use Rattle.thinning.proofs.admitted.Tie as tie
 
--- ---- where the function begins
+-- ---- where the function begins: its input, and what the checks have shown of it
 
--- its input, and what the checks have shown of it
 abbrev input : tie.Start → Input
 input c =
     let a = c .args in
@@ -28,68 +27,68 @@ fine : (c : tie.Start) → Admissible (input c)
 fine c = verdicts.admitted (input c) (c .pre)
 
 room : (c : tie.Start) → Working (pointsIn (input c)) (facesIn (input c)) (c .args .w .now) (c .args .p .now) (c .args .q .now)
-room c = sizes.working (input c) (fine c .sized) (c .args .w .now) (c .args .p .now) (c .args .q .now) refl refl refl
+room c = working (input c) (fine c .sized) (c .args .w .now) (c .args .p .now) (c .args .q .now) refl refl refl
 
--- ---- the places after each stage, seen from where the next is called
+-- ---- the place after each stage, from the place after the next
 
-abbrev begun : tie.After-target → tie.Start
-begun c = c .before .before .before .before .before .before .before .before
+abbrev aimed : tie.After-laid-out → tie.After-target
+aimed c = c .before .before .before .before
 
-abbrev laid : tie.After-plain-walk-arg3 → tie.After-laid-out
-laid c = c .before .before .before .before .before .before .before .before .before
+abbrev begun : tie.After-laid-out → tie.Start
+begun c = aimed c .before .before .before .before .before .before .before .before
 
-abbrev walked : tie.After-finished-arg4 → tie.After-plain-walk
-walked c = c .before .before .before .before .before .before .before .before .before .before
+abbrev laid : tie.After-plain-walk → tie.After-laid-out
+laid c = c .before .before .before .before .before .before .before .before .before .before
 
-abbrev finished : tie.After-clear-arg3 → tie.After-finished
-finished c = c .before .before .before .before .before .before .before .before .before
+abbrev walked : tie.After-finished → tie.After-plain-walk
+walked c = c .before .before .before .before .before .before .before .before .before .before .before
+
+abbrev finished : tie.After-clear → tie.After-finished
+finished c = c .before .before .before .before .before .before .before .before .before .before
 
 abbrev cleared : tie.After-slice-known17 → tie.After-clear
 cleared c = c .before .before .before .before .before .before
 
-abbrev entry : tie.After-slice-known17 → tie.Start
-entry c = begun ((laid ((walked ((finished (cleared c .before)) .before)) .before)) .before .before .before .before)
-
 -- the target is document 01's
-aim : (c : tie.After-target) → c .target .result ≡ targetOf (input (begun c))
+aim : (c : tie.After-laid-out) → aimed c .target .result ≡ targetOf (input (begun c))
 unfolding targetOf
-aim c = c .target .ensures
+aim c = aimed c .target .ensures
 
 -- ---- the needs
 
 cast-target : tie.Need-cast-target
-cast-target c = let f = fine (c .before .before .before .before .before .before .before) .sized in omega (arith, f .faces-most)
+cast-target c = omega (arith, fine (c .before .before .before .before .before .before .before) .sized .faces-most)
 
 target-requires : tie.Need-target-requires
 target-requires c κs = search needs
 
 laid-out-requires : tie.Need-laid-out-requires
 laid-out-requires c κs =
-    let start = begun (c .before .before .before) in
+    let start = c .before .before .before .before .before .before .before .before .before .before .before in
     let known = fine start in
     (room start, (known .sized .points-by-three, (known .sized .faces-by-three, known .faces-proper)))
 
 plain-walk-requires : tie.Need-plain-walk-requires
 plain-walk-requires c κs =
-    let stage = laid c in
-    let start = begun (stage .before .before .before .before) in
+    let stage = c .before .before .before .before .before .before .before .before .before in
+    let start = begun stage in
     walk-asked (input start) (start .args .preserve) (start .pre) (room start) (stage .laid-out .ensures)
 
 finished-requires : tie.Need-finished-requires
 finished-requires c κs =
-    let stage = walked c in
-    let before = laid (stage .before) in
-    let start = begun (before .before .before .before .before) in
+    let stage = c .before .before .before .before .before .before .before .before .before .before in
+    let before = laid stage in
+    let start = begun before in
     let known = fine start .sized in
     let done = stage .plain-walk .ensures in (
       done .tidy,
       (
-        points-stay (input start) (start .args .preserve) (start .pre) (room start) (before .laid-out .ensures) (aim (before .before .before .before .before)) done,
+        points-stay (input start) (start .args .preserve) (start .pre) (room start) (before .laid-out .ensures) (aim before) done,
         (
           known .room-points,
           (
             known .room-faces,
-            counts-few (input start) (start .args .preserve) (start .pre) (room start) (before .laid-out .ensures) (aim (before .before .before .before .before)) done,
+            counts-few (input start) (start .args .preserve) (start .pre) (room start) (before .laid-out .ensures) (aim before) done,
           ),
         ),
       ),
@@ -97,27 +96,26 @@ finished-requires c κs =
 
 clear-requires : tie.Need-clear-requires
 clear-requires c κs =
-    let last = finished c in
-    let stage = walked (last .before) in
-    let before = laid (stage .before) in
-    let start = begun (before .before .before .before .before) in
-    clear-asked (input start) (start .args .preserve) (start .pre) (room start) (before .laid-out .ensures) (aim (before .before .before .before .before))
-    (stage .plain-walk .ensures) (last .finished .ensures)
+    let stage = c .before .before .before .before .before .before .before .before .before in
+    let before = laid (walked stage) in
+    let start = begun before in
+    clear-asked (input start) (start .args .preserve) (start .pre) (room start) (before .laid-out .ensures) (aim before)
+    (walked stage .plain-walk .ensures) (stage .finished .ensures)
 
 -- the memory is as long at the end as at the start
 lengths : (c : tie.After-slice-known17) →
-    let args = entry c .args in
+    let start = begun (laid (walked (finished (cleared c)))) in
     let last = cleared c .clear .last in
-    (length (last .0) ≡ length (args .w .now)) × (length (last .1 .0) ≡ length (args .p .now)) × (length (last .1 .1 .0) ≡ length (args .q .now))
+    (length (last .0) ≡ length (start .args .w .now))
+    × (length (last .1 .0) ≡ length (start .args .p .now))
+    × (length (last .1 .1 .0) ≡ length (start .args .q .now))
 lengths c =
-    let end = cleared c in
-    let last = finished (end .before) in
-    let stage = walked (last .before) in
-    let before = laid (stage .before) in
-    let start = begun (before .before .before .before .before) in
+    let stage = finished (cleared c) in
+    let before = laid (walked stage) in
+    let start = begun before in
     zeroed-lengths (room start)
-    (zeroed-all (input start) (start .args .preserve) (start .pre) (room start) (before .laid-out .ensures) (aim (before .before .before .before .before))
-    (stage .plain-walk .ensures) (last .finished .ensures) (end .clear .ensures))
+    (zeroed-all (input start) (start .args .preserve) (start .pre) (room start) (before .laid-out .ensures) (aim before)
+    (walked stage .plain-walk .ensures) (stage .finished .ensures) (cleared c .clear .ensures))
 
 same-length : tie.Need-same-length
 same-length c = search needs
@@ -136,13 +134,11 @@ same-length-5 c = lengths c .2
 
 returns : tie.Need-returns
 returns c =
-    let end = cleared c in
-    let last = finished (end .before) in
-    let stage = walked (last .before) in
-    let before = laid (stage .before) in
-    let start = begun (before .before .before .before .before) in
-    left (input start) (start .args .preserve) (start .pre) (room start) (before .laid-out .ensures) (aim (before .before .before .before .before))
-    (stage .plain-walk .ensures) (last .finished .ensures) (end .clear .ensures)
+    let stage = finished (cleared c) in
+    let before = laid (walked stage) in
+    let start = begun before in
+    left (input start) (start .args .preserve) (start .pre) (room start) (before .laid-out .ensures) (aim before)
+    (walked stage .plain-walk .ensures) (stage .finished .ensures) (cleared c .clear .ensures)
 
 pub admitted-spec : {M : Type 1} → statement M
 admitted-spec =

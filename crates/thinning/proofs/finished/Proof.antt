@@ -1,38 +1,29 @@
+-- `thinning::finished` meets its contract: in each arm the definition's test is decided as the code's.
+-- Assumes nothing.
 use borrow.Author.Needs.{needs}
 use mathlib.Core.Path.{refl}
 use Rattle.mesh.proofs.Frames.{but-refl}
 use Rattle.thinning.proofs.finished.Statement.{statement}
 use Rattle.thinning.proofs.finished.Tie as tie
-use Rattle.thinning.proofs.finished.Reads as reads
-use Rattle.thinning.proofs.finished.Lts as lts
-use Rattle.thinning.proofs.stuck.Reads as stuck-reads
-use Rattle.thinning.proofs.written.Reads as written-reads
 
--- src/lib.rt:151:9
 stuck-requires : tie.Need-stuck-requires
 stuck-requires c κs = search needs
 
--- src/lib.rt:153:9
 written-requires : tie.Need-written-requires
 written-requires c κs = search needs
 
--- src/lib.rt:136:1
 returns : tie.Need-returns
 returns c = rw (c .before .if1 .taken) (record { but = but-refl _ _ _; answered = c .stuck .ensures; points-out = refl; faces-out = refl })
 
--- src/lib.rt:136:1
 same-length : tie.Need-same-length
 same-length c = search needs
 
--- src/lib.rt:136:1
 same-length-2 : tie.Need-same-length-2
 same-length-2 c = search needs
 
--- src/lib.rt:136:1
 same-length-3 : tie.Need-same-length-3
 same-length-3 c = search needs
 
--- src/lib.rt:136:1
 returns-2 : tie.Need-returns-2
 returns-2 c = rw (c .before .before .before .before .before .before .before .before .before .before .if1 .left) (c .before .before .before .before .before .before .written .ensures)
 

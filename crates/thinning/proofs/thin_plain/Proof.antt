@@ -4,7 +4,6 @@ use mathlib.Core.Path.{_≡_, refl, sym, _∙_}
 use borrow.Author.Needs.{needs}
 use Rattle.checks.specs.declared.Verdict.the-variants.{Copied}
 use Rattle.checks.specs.Verdicts.{Input, verdictOf}
-use Rattle.checks.specs.Facts.{Sized}
 use Rattle.checks.proofs.VerdictLaws as verdicts
 use Rattle.thinning.specs.Entry.{inputOf}
 use Rattle.thinning.proofs.SizeLaws.{working, measured}
