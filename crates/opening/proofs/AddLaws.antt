@@ -35,7 +35,7 @@ use Rattle.pairs.proofs.OpenLaws.{open-same}
 use Rattle.pairs.proofs.MeshLaws.{mesh-points, mesh-data}
 use Rattle.opening.specs.Edges.{wanted, risingFrom, openedAround}
 use Rattle.opening.specs.Waiting.{Near, found, fits, waiting, Framed, Marks, Opens, Ready}
-use Rattle.opening.proofs.Borrowed.{lives-but, face-but}
+use Rattle.mesh.proofs.Frames.{lives-but, face-but}
 use Rattle.opening.proofs.FrameLaws.{framed-then, framed-marks, framed-list, framed-room, face-listed}
 use Rattle.opening.proofs.MarkLaws.{found-none, found-next}
 use Rattle.opening.proofs.WaitLaws.{waits, waiting-sum, fits-framed, open-marked}

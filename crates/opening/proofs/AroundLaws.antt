@@ -22,7 +22,7 @@ use Rattle.vertices.specs.Memory.{vertexAt, meshOf}
 use Rattle.pairs.proofs.BelowLaws.{those-append, read-below}
 use Rattle.opening.specs.Edges.{wanted}
 use Rattle.opening.specs.Waiting.{nearAt, Near}
-use Rattle.opening.proofs.Borrowed.{lives-but, face-but}
+use Rattle.mesh.proofs.Frames.{lives-but, face-but}
 
 -- ---- lists made from the numbers below n
 

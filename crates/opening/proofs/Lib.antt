@@ -1,4 +1,3 @@
-pub mod Borrowed
 pub mod FrameLaws
 pub mod MarkLaws
 pub mod WaitLaws

@@ -16,7 +16,7 @@ use Rattle.surface.specs.Faces.{holds}
 use Rattle.surface.proofs.SumLaws.{by-test, some-append}
 use Rattle.mesh.specs.Memory.{mark, faceAt, Room}
 use Rattle.opening.specs.Waiting.{nearAt, found, Marks}
-use Rattle.pairs.proofs.Borrowed.{but-refl, but-then, but-set}
+use Rattle.mesh.proofs.Frames.{but-refl, but-then, but-set}
 
 -- ---- tests
 

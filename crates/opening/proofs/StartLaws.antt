@@ -35,7 +35,7 @@ use Rattle.pairs.specs.Changes.{Added}
 use Rattle.pairs.proofs.OpenLaws.{open-none, open-length}
 use Rattle.pairs.proofs.MeshLaws.{mesh-points}
 use Rattle.opening.specs.Edges.{risingFrom}
-use Rattle.pairs.proofs.Borrowed.{but-refl, but-then}
+use Rattle.mesh.proofs.Frames.{but-refl, but-then}
 use Rattle.opening.proofs.AroundLaws.{mesh-but}
 
 -- ---- the mesh in memory

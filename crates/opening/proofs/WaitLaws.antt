@@ -24,7 +24,7 @@ use Rattle.pairs.specs.Memory.{openPairs}
 use Rattle.pairs.proofs.BelowLaws.{sum-agree, sum-changed}
 use Rattle.pairs.proofs.OpenLaws.{open-same, open-length, pushed, pushed-but, pushed-sum}
 use Rattle.opening.specs.Waiting.{nearAt, found, fits, waiting, Framed, Opens, Ready}
-use Rattle.pairs.proofs.Borrowed.{but-set}
+use Rattle.mesh.proofs.Frames.{but-set}
 use Rattle.opening.proofs.FrameLaws.{framed-refl, framed-then, framed-marks, framed-pairs, framed-room}
 use Rattle.opening.proofs.MarkLaws.{cond-then, found-none, found-next}
 

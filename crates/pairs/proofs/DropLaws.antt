@@ -11,7 +11,7 @@ use Rattle.surface.specs.Walk.{pairOf, apart}
 use Rattle.mesh.specs.Memory.{Room, But}
 use Rattle.pairs.specs.Memory.{pairAt, openPairs}
 use Rattle.pairs.specs.Changes.{Dropped}
-use Rattle.pairs.proofs.Borrowed.{but-refl, but-then}
+use Rattle.mesh.proofs.Frames.{but-refl, but-then}
 use Rattle.pairs.proofs.BelowLaws.{those-next}
 use Rattle.pairs.proofs.OpenLaws.{open-none, open-next, pushed, pushed-but, pushed-other, pushed-grows}
 

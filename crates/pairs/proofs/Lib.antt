@@ -1,4 +1,3 @@
-pub mod Borrowed
 pub mod BelowLaws
 pub mod OpenLaws
 pub mod DropLaws

@@ -17,7 +17,7 @@ use Rattle.surface.proofs.SamePairs.{pair-path}
 use Rattle.mesh.specs.Memory.{Room, But}
 use Rattle.pairs.specs.Memory.{pairAt, openPairs}
 use Rattle.pairs.specs.Changes.{Closed}
-use Rattle.pairs.proofs.Borrowed.{but-then, but-set}
+use Rattle.mesh.proofs.Frames.{but-then, but-set}
 use Rattle.pairs.proofs.BelowLaws.{sum-agree, sum-changed}
 
 module _ (v f : ℕ) where

@@ -3,7 +3,7 @@
 use Prim.Native.Nat.{_≤_, _-_}
 use native.Mathlib.Omega.{arith}
 use borrow.Author.Needs.{needs}
-use Rattle.opening.proofs.Borrowed.{tidy-but}
+use Rattle.mesh.proofs.TidyLaws.{tidy-but}
 use Rattle.opening.proofs.StartLaws.{Starting, starting-none, starting-next, starting-room, starting-all}
 use Rattle.opening.proofs.open_start.Statement.{statement}
 use Rattle.opening.proofs.open_start.Tie as tie
