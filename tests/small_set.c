@@ -1,0 +1,61 @@
+/* The small set of document 01 that is run, through the C interface: each call's answer, and the output where it matters. */
+#include "../include/hjoltravan.h"
+#include <stdio.h>
+#include <string.h>
+
+enum { MOST_POINTS = 16, MOST_FACES = 16 };
+
+static float out_points[3 * MOST_POINTS];
+static uint32_t out_faces[3 * MOST_FACES];
+static int failed;
+
+/* Thins v points and f faces, and says whether the answer is the expected one. */
+static void expect(const char *what, const float *points, size_t v, const uint32_t *faces, size_t f, float ratio, bool preserve,
+                   bool limited, float limit, uint32_t number, uint32_t place, uint32_t most_faces, uint32_t folds) {
+    static uint32_t u[16 * MOST_POINTS + 32 * MOST_FACES], answer[5];
+    static float p[4 * MOST_POINTS + 12 * MOST_FACES];
+    static double q[16 * MOST_POINTS + 6 * MOST_FACES];
+    hjoltravan_thin(points, 3 * v, faces, 3 * f, ratio, preserve, limited, limit, out_points, 3 * v, out_faces, 3 * f, u,
+                    HJOLTRAVAN_WORK_U32(v, f), p, HJOLTRAVAN_WORK_F32(v, f), q, HJOLTRAVAN_WORK_F64(v, f), answer);
+    bool right = answer[0] == number && answer[1] == place && answer[3] <= most_faces && answer[4] == folds;
+    if (!right) {
+        printf("small set: %s: answer %u place %u points %u faces %u folds %u\n", what, answer[0], answer[1], answer[2], answer[3], answer[4]);
+        failed++;
+    }
+}
+
+int main(void) {
+    static const float square[] = {0, 0, 0, 2, 0, 0, 2, 2, 0, 0, 2, 0, 1, 1, 0};
+    static const uint32_t fan[] = {0, 1, 4, 1, 2, 4, 2, 3, 4, 3, 0, 4};
+    expect("the square", square, 5, fan, 4, 0.5f, false, false, 0, 0, 0, 2, 1);
+    expect("preserve on", square, 5, fan, 4, 0.5f, true, false, 0, 10, 4, 0, 0);
+    expect("limit 1.0", square, 5, fan, 4, 0.5f, false, true, 1.0f, 11, 0, 0, 0);
+    expect("limit 2.0", square, 5, fan, 4, 0.5f, false, true, 2.0f, 0, 0, 2, 1);
+
+    static const float corner[] = {0, 0, 0, 1, 0, 0, 0, 1, 0};
+    static const uint32_t triangle[] = {0, 1, 2};
+    expect("one triangle, ratio 1", corner, 3, triangle, 1, 1.0f, false, false, 0, 0, 0, 0, 1);
+
+    /* no fold is due, but points are numbered by first use */
+    static const float four[] = {9, 9, 9, 0, 0, 0, 1, 0, 0, 0, 1, 0};
+    static const uint32_t last_first[] = {3, 1, 2}, by_first_use[] = {0, 1, 2};
+    static const float renumbered[] = {0, 1, 0, 0, 0, 0, 1, 0, 0};
+    expect("ratio 2^-25", four, 4, last_first, 1, 0x1p-25f, false, false, 0, 0, 0, 1, 0);
+    if (memcmp(out_faces, by_first_use, sizeof by_first_use) || memcmp(out_points, renumbered, sizeof renumbered)) {
+        printf("small set: ratio 2^-25 doesn't renumber by first use\n");
+        failed++;
+    }
+
+    /* ten faces at the f32 nearest to 0.1: the target is 9, so one fold is made and no more than nine faces are left */
+    float strip[3 * 12];
+    uint32_t ten[3 * 10];
+    for (uint32_t i = 0; i < 12; i++) strip[3 * i] = (float)(i / 2), strip[3 * i + 1] = (float)(i % 2), strip[3 * i + 2] = (float)(i * i % 5) * 0.25f;
+    for (uint32_t i = 0; i < 5; i++) {
+        const uint32_t six[] = {2 * i, 2 * i + 2, 2 * i + 3, 2 * i, 2 * i + 3, 2 * i + 1};
+        memcpy(ten + 6 * i, six, sizeof six);
+    }
+    expect("ten faces, ratio 0.1", strip, 12, ten, 10, 0.1f, false, false, 0, 0, 0, 9, 1);
+
+    printf("small set: %d failed\n", failed);
+    return failed != 0;
+}
