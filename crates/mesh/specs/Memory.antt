@@ -7,9 +7,13 @@
 --   7F            V       first: the link from a point to its first corner
 --   7F + V        V       kind: what the point is, by number
 --   7F + 2V       V       marks: 0 between uses
---   7F + 3V       V       stamps
---   7F + 4V       3F      keep, and from 10F + 4V remove: the open pairs
+--   7F + 3V       V       stamps: how many folds have touched the point
+--   7F + 4V       3F      keep, and from 10F + 4V remove: the open pairs, or the pairs of the queue's entries
 --   13F + 4V      F       near, and from 14F + 4V far: faces around a point, while they are looked at
+--   15F + 4V      V       around: points around a point, while they are looked at
+--   15F + 5V      3F      order: the queue's entries, the least first
+--   18F + 5V      3F      keep's stamp, and from 21F + 5V remove's: of the queue's entries
+--   24F + 5V      2F      folds: keep and remove of each fold made
 --
 -- A link is 0 at the end of a chain, and else the next corner's number plus 1.
 use Prim.Native.Nat.{ℕ, _+_, _*_, _≤_, _<_}

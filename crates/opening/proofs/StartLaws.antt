@@ -1,11 +1,10 @@
 -- The start, point after point: what is opened from the points passed, and that there is room for it.
 -- Assumes nothing.
-use Prim.Native.Nat.{ℕ, zero, suc, _+_, _*_, _≤_, _<_}
-use native.Mathlib.Nat.{zero-add, eq-or-lt-of-le, le-of-suc-le-suc}
+use Prim.Native.Nat.{ℕ, suc, _+_, _*_, _≤_, _<_}
+use native.Mathlib.Nat.{zero-add}
 use native.Mathlib.Numerals.{add-one}
 use native.Mathlib.Omega.{arith}
 use mathlib.Core.Path.{_≡_, sym, ap, ap₂, _∙_}
-use mathlib.Core.Logic.{⊎-elim}
 use mathlib.Core.List.{List}
 use mathlib.Core.Bool.{true, cond}
 use lib.Dec.{ltb}
@@ -36,7 +35,8 @@ use Rattle.pairs.proofs.OpenLaws.{open-none, open-length}
 use Rattle.pairs.proofs.MeshLaws.{mesh-points}
 use Rattle.opening.specs.Edges.{risingFrom}
 use Rattle.mesh.proofs.Frames.{but-refl, but-then}
-use Rattle.opening.proofs.AroundLaws.{mesh-but}
+use Rattle.opening.proofs.WaitLaws.{sum-partial}
+use Rattle.opening.proofs.AddLaws.{mesh-but}
 
 -- ---- the mesh in memory
 
@@ -64,14 +64,9 @@ started-few {v} {f} {w} tidy p q rules =
     let good : every (proper (length (m .points))) (m .faces) ≡ true = rw (mesh-points v f w p q) (faces-proper v f w (tidy .faces-proper)) in
     omega (arith, open-bound (started rules m) (started-sound rules m good), faces-few f w)
 
--- ---- partial sums
+-- ---- point after point
 
-pub sum-partial : (g : ℕ → ℕ) (a b : ℕ) → a ≤ b → sum g (below a) ≤ sum g (below b)
-sum-partial g a zero l = let e : a ≡ 0 = omega arith in rw e (omega arith)
-sum-partial g a (suc b) l =
-    ⊎-elim (λ e. rw e (omega arith)) (λ m. omega (arith, sum-partial g a b (le-of-suc-le-suc m), sum-below g b)) (eq-or-lt-of-le l)
-
--- what the start opens, point after point
+-- what the start opens
 pub rising-sum : {D : Type 0} (rules : Rules D) (m : Mesh D) (g : Pair → ℕ) →
     sum (λ x. sum g (risingFrom rules m x)) (below (length (m .points))) ≡ sum g (started rules m .«open»)
 unfolding risingFrom
@@ -81,7 +76,7 @@ rising-sum rules m g =
 
 -- the pairs of the points below x are open
 pub record Starting (v f : ℕ) (w₀ : List ℕ) (p q : List Float) (limit : Limit) (bound : Float) (w : List ℕ) (n x : ℕ) : Type 0 where
-  pub but : But (7 * f + 4 * v) (14 * f + 4 * v) w₀ w
+  pub but : But (7 * f + 4 * v) (15 * f + 5 * v) w₀ w
   pub sums : (g : Pair → ℕ) → sum g (openPairs v f w n) ≡ sum (λ y. sum g (risingFrom (rulesOf limit bound) (meshOf v f w₀ p q) y)) (below x)
 
 module _ {v f : ℕ} {w₀ : List ℕ} {p q : List Float} {limit : Limit} {bound : Float} where

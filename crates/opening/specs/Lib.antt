@@ -1,3 +1,3 @@
--- Which pairs are opened around a point, and what opening them leaves in memory.
+-- Which pairs are opened around a point, and which of its listed points wait for it.
 pub mod Edges
 pub mod Waiting

@@ -44,5 +44,5 @@ pub record Dropped (v f : ℕ) (w : List ℕ) (n keep remove : ℕ) (w' : List �
 
 -- pairs are opened: a list of them is added, in any order. Marks, faces and points are as before.
 pub record Added (v f : ℕ) (w : List ℕ) (n : ℕ) (more : List Pair) (w' : List ℕ) (n' : ℕ) : Type 0 where
-  pub but : But (7 * f + 4 * v) (14 * f + 4 * v) w w'
+  pub but : But (7 * f + 4 * v) (15 * f + 5 * v) w w'
   pub sums : (g : Pair → ℕ) → sum g (openPairs v f w' n') ≡ sum g (openPairs v f w n) + sum g more

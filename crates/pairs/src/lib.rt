@@ -23,11 +23,11 @@ pub struct Least {
 }
 
 // A pair, its place in the list, and the key of its cost.
-struct Ranked {
-    at: usize,
-    key: i64,
-    keep: u32,
-    remove: u32,
+pub struct Ranked {
+    pub at: usize,
+    pub key: i64,
+    pub keep: u32,
+    pub remove: u32,
 }
 
 // The point that stays, of the pair in a place of the list.

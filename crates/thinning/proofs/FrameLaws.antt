@@ -6,11 +6,12 @@ use mathlib.Core.Path.{_≡_, sym, ap, _∙_}
 use mathlib.Core.List.{List, _++_}
 use lib.Ieee.{Float}
 use lib.ListN.{length, drop, replicate, length-append, length-replicate, length-drop}
-use lib.Seq.{ext-getD, getD-drop, drop-drop}
+use lib.Seq.{ext-getD, getD-drop}
 use Rattle.geometry.specs.Constants.{nought}
 use Rattle.mesh.specs.Memory.{But}
 use Rattle.mesh.proofs.Frames.{but-then}
 use Rattle.walks.specs.Steps.{Within}
+use Rattle.walks.proofs.MemoryLaws.{rest-more}
 use Rattle.thinning.specs.Stages.{Working, Zeroed}
 
 -- cells past a change
@@ -18,16 +19,6 @@ rest-but : {hi : ℕ} {w w' : List ℕ} (n : ℕ) → But 0 hi w w' → hi ≤ n
 rest-but {hi} {w} {w'} n but past =
     ext-getD 0 (drop n w') (drop n w) (length-drop n w' ∙ ap (λ k. k - n) (but .same-length) ∙ sym (length-drop n w))
     (λ i l. getD-drop n w' i 0 ∙ but .over (n + i) (omega arith) ∙ sym (getD-drop n w i 0))
-
--- two memories that agree from m on agree further on
-rest-more : {A : Type 0} (p' p : List A) (m n : ℕ) → m ≤ n → drop m p' ≡ drop m p → drop n p' ≡ drop n p
-rest-more p' p m n past same =
-    let there : m + (n - m) ≡ n = omega arith in
-    ap (λ k. drop k p') (sym there)
-    ∙ sym (drop-drop (n - m) m p')
-    ∙ ap (drop (n - m)) same
-    ∙ drop-drop (n - m) m p
-    ∙ ap (λ k. drop k p) there
 
 -- one change after another
 pub within-then : {v f : ℕ} {w w₁ w₂ : List ℕ} {p q p₁ q₁ p₂ q₂ : List Float} →
@@ -52,8 +43,8 @@ pub zeroed-within : {v f : ℕ} {w w₁ w' : List ℕ} {p q p₁ q₁ p' q' : Li
     Within v f w p q w₁ p₁ q₁ → Zeroed v f w₁ p₁ q₁ w' p' q' → Zeroed v f w p q w' p' q'
 zeroed-within {v} {f} {w} {w₁} {w'} {p} {q} {p₁} {q₁} within zeroed = record {
   u32s = zeroed .u32s ∙ ap (λ (rest : List ℕ). replicate (16 * v + 32 * f) 0 ++ rest) (rest-but (16 * v + 32 * f) (within .but) (omega arith));
-  f32s = zeroed .f32s ∙ ap (λ (rest : List Float). replicate (4 * v + 12 * f) nought ++ rest) (rest-more p₁ p (3 * v) (4 * v + 12 * f) (omega arith) (within .rest-p));
-  f64s = zeroed .f64s ∙ ap (λ (rest : List Float). replicate (16 * v + 6 * f) nought ++ rest) (rest-more q₁ q (10 * v) (16 * v + 6 * f) (omega arith) (within .rest-q));
+  f32s = zeroed .f32s ∙ ap (λ (rest : List Float). replicate (4 * v + 12 * f) nought ++ rest) (rest-more p₁ p (3 * v + 9 * f) (4 * v + 12 * f) (omega arith) (within .rest-p));
+  f64s = zeroed .f64s ∙ ap (λ (rest : List Float). replicate (16 * v + 6 * f) nought ++ rest) (rest-more q₁ q (10 * v + 3 * f) (16 * v + 6 * f) (omega arith) (within .rest-q));
 }
 
 -- no memory grows or shrinks

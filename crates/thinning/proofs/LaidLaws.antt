@@ -1,6 +1,6 @@
 -- Laying a mesh out comes to the mesh at the start, in the stages' own cells.
 -- Assumes nothing.
-use Prim.Native.Nat.{ℕ, _*_, _≤_, _<_}
+use Prim.Native.Nat.{ℕ, _+_, _*_, _≤_, _<_}
 use native.Mathlib.Omega.{arith}
 use mathlib.Core.Path.{_≡_, ap, _∙_}
 use mathlib.Core.List.{List, map}
@@ -21,6 +21,7 @@ use Rattle.vertices.specs.Laying.{QuadricsAre}
 use Rattle.vertices.proofs.BelowLaws.{length-each}
 use Rattle.vertices.proofs.LayLaws.{points-length, points-rest}
 use Rattle.vertices.proofs.StartLaws.{bordered-laid, slots-proper, mesh-laid}
+use Rattle.walks.proofs.MemoryLaws.{rest-more}
 use Rattle.thinning.specs.Stages.{Working, LaidOut}
 
 module _ (points : List Float) {v f n : ℕ} {faces : List ℕ} {preserve : Bool} {w w₁ w₂ : List ℕ} {p q : List Float}
@@ -40,7 +41,7 @@ module _ (points : List Float) {v f n : ℕ} {faces : List ℕ} {preserve : Bool
   -- what is laid out then
   pub laid-out : {p₁ q₁ : List Float} → p₁ ≡ withPoints v points p →
       QuadricsAre v (λ x. gathered p₁ x zeroQuadric (map (faceAt w₂) (below f))) q q₁ → LaidOut v f points faces preserve w p q w₂ p₁ q₁ n
-  laid-out copied quadrics =
+  laid-out {p₁} {q₁} copied quadrics =
       let same : liveFaces f w₂ ≡ facesOf f faces = bordered-laid laid bordered in
       record {
         tidy = bordered .tidy;
@@ -48,8 +49,8 @@ module _ (points : List Float) {v f n : ℕ} {faces : List ℕ} {preserve : Bool
           but = but-then (but-widen (omega arith) (omega arith) (laid .but)) (but-widen (omega arith) (omega arith) (bordered .but));
           same-length-p = ap length copied ∙ points-length v points p (omega arith) (omega arith);
           same-length-q = quadrics .same-length;
-          rest-p = rw copied (points-rest v points p (omega arith));
-          rest-q = quadrics .rest;
+          rest-p = rest-more p₁ p (3 * v) (3 * v + 9 * f) (omega arith) (rw copied (points-rest v points p (omega arith)));
+          rest-q = rest-more q₁ q (10 * v) (10 * v + 3 * f) (omega arith) (quadrics .rest);
         };
         same-mesh = mesh-laid v f points faces preserve all-proper w₂ p laid bordered (omega arith) copied same quadrics;
         all-live = ap length same ∙ length-each _ f;

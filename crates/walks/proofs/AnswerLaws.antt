@@ -49,7 +49,7 @@ module _ {v f : ℕ} {w : List ℕ} {p q : List Float} {n live : ℕ} (h : Holds
       StepDone v f w p q n target limit bound w p q (record { step = Ended; «open» = n; live = live })
   unfolding after
   ended-done e =
-      record { holds = h; within = within-refl v f w p q; same-answer = sym e; same-state = rw e same-refl }
+      record { holds = h; within = within-refl _ v f w p q; same-answer = sym e; same-state = rw e same-refl }
 
   -- at the target, and with no open pair
   pub at-target : live ≤ target → StepDone v f w p q n target limit bound w p q (record { step = Ended; «open» = n; live = live })
@@ -168,7 +168,7 @@ module _ {v f : ℕ} {w w₁ w₂ : List ℕ} {keep remove near n far m : ℕ}
 
 -- what is done after cells of near and far have changed is done to the state as it was
 pub tried-before : {v f : ℕ} {w w₁ : List ℕ} {p q : List Float} {n live lo hi : ℕ} (r : Least) {limit : Limit} {bound : Float}
-    {w' : List ℕ} {p' q' : List Float} {s : Stepped} → Holds v f w p q n live → But lo hi w w₁ → 13 * f + 4 * v ≤ lo → hi ≤ 15 * f + 4 * v →
+    {w' : List ℕ} {p' q' : List Float} {s : Stepped} → Holds v f w p q n live → But lo hi w w₁ → 13 * f + 4 * v ≤ lo → hi ≤ 24 * f + 5 * v →
     PairTried v f w₁ p q n r limit bound w' p' q' s → PairTried v f w p q n r limit bound w' p' q' s
 tried-before {v} {f} {w} {w₁} {p} {q} {n} {live} {lo} {hi} r {limit} {bound} {w'} {p'} {q'} {s} h but above up done =
     let x = pairOf (r .keep) (r .remove) in

@@ -26,9 +26,9 @@ use Rattle.pairs.specs.Memory.{openPairs, stateOf}
 use Rattle.pairs.specs.Changes.{Dropped, Added}
 use Rattle.folding.specs.Folds.{MeshFolded}
 use Rattle.walks.specs.declared.Step.the-variants.{Folded}
-use Rattle.walks.specs.Steps.{Holds, Within, AnswerDone}
+use Rattle.walks.specs.Steps.{Holds, StepWithin, AnswerDone}
 use Rattle.walks.proofs.StateLaws.{sound-bag}
-use Rattle.walks.proofs.MemoryLaws.{live-few, mesh-but, pairs-same, open-length, open-few, within-but, within-then}
+use Rattle.walks.proofs.MemoryLaws.{live-few, mesh-but, pairs-same, open-length, open-few, rest-more, within-but, within-then}
 
 module _ {v f : ℕ} {w : List ℕ} {p q : List Float} {n live : ℕ} {limit : Limit} {bound : Float} {keep remove : ℕ}
     {w₁ : List ℕ} {p' q' : List Float} {gone : ℕ}
@@ -84,15 +84,15 @@ module _ {v f : ℕ} {w : List ℕ} {p q : List Float} {n live : ℕ} {limit : L
             };
       }
 
-      folded-within : Within v f w p q w₃ p' q'
+      folded-within : StepWithin v f w p q w₃ p' q'
       folded-within =
           within-then
           (record {
             but = but-widen (omega arith) (omega arith) (fold .but);
             same-length-p = fold .same-length-p;
             same-length-q = fold .same-length-q;
-            rest-p = fold .rest-p;
-            rest-q = fold .rest-q;
+            rest-p = rest-more p' p (3 * v) (3 * v + 9 * f) (omega arith) (fold .rest-p);
+            rest-q = rest-more q' q (10 * v) (10 * v + 3 * f) (omega arith) (fold .rest-q);
           })
           (within-then (within-but p' q' (drop .but) (omega arith)) (within-but p' q' (add .but) (omega arith)))
 

@@ -1,6 +1,9 @@
 -- Laws of the walk in memory, leaves first.
 pub mod StateLaws
+pub mod RunLaws
 pub mod MemoryLaws
+pub mod NoteLaws
+pub mod GoingLaws
 pub mod AnswerLaws
 pub mod FoldedLaws
 pub mod WalkLaws

@@ -1,12 +1,13 @@
 -- The state in memory: what of the memory it hangs on, and what is true of it.
 -- Assumes nothing.
-use Prim.Native.Nat.{ℕ, _+_, _*_, _≤_, _<_}
+use Prim.Native.Nat.{ℕ, _+_, _*_, _-_, _≤_, _<_}
 use native.Mathlib.Omega.{arith}
 use mathlib.Core.Path.{_≡_, refl, sym, ap, _∙_}
 use mathlib.Core.List.{List, map}
 use mathlib.Core.Bool.{Bool, true, cond}
 use lib.Ieee.{Float}
-use lib.ListN.{length, getD}
+use lib.ListN.{length, getD, drop}
+use lib.Seq.{drop-drop}
 use borrow.Author.Tests.{ltb-true}
 use Rattle.surface.specs.declared.Pair.{Pair}
 use Rattle.surface.specs.Lists.{every, below}
@@ -31,7 +32,7 @@ use Rattle.vertices.proofs.BelowLaws.{length-each, getD-each}
 use Rattle.vertices.proofs.MeshLaws.{mesh-length, mesh-same}
 use Rattle.pairs.specs.Memory.{pairAt, openPairs, stateOf}
 use Rattle.pairs.specs.Changes.{Named}
-use Rattle.walks.specs.Steps.{Holds, Within}
+use Rattle.walks.specs.Steps.{Holds, WithinTo}
 
 -- ---- the live faces
 
@@ -123,11 +124,21 @@ module _ {v f : ℕ} {w : List ℕ} {p q : List Float} {n live : ℕ} (h : Holds
 
 -- ---- no more than the walk's own cells
 
-pub within-refl : (v f : ℕ) (w : List ℕ) (p q : List Float) → Within v f w p q w p q
-within-refl v f w p q = record { but = but-refl _ _ w; same-length-p = refl; same-length-q = refl; rest-p = refl; rest-q = refl }
+-- two memories that agree from m on agree further on
+pub rest-more : {A : Type 0} (p' p : List A) (m n : ℕ) → m ≤ n → drop m p' ≡ drop m p → drop n p' ≡ drop n p
+rest-more p' p m n past same =
+    let there : m + (n - m) ≡ n = omega arith in
+    ap (λ k. drop k p') (sym there)
+    ∙ sym (drop-drop (n - m) m p')
+    ∙ ap (drop (n - m)) same
+    ∙ drop-drop (n - m) m p
+    ∙ ap (λ k. drop k p) there
+
+pub within-refl : (past v f : ℕ) (w : List ℕ) (p q : List Float) → WithinTo past v f w p q w p q
+within-refl past v f w p q = record { but = but-refl _ _ w; same-length-p = refl; same-length-q = refl; rest-p = refl; rest-q = refl }
 
 -- cells of the u32 memory alone
-pub within-but : {v f lo hi : ℕ} {w w' : List ℕ} (p q : List Float) → But lo hi w w' → hi ≤ 15 * f + 4 * v → Within v f w p q w' p q
+pub within-but : {past v f lo hi : ℕ} {w w' : List ℕ} (p q : List Float) → But lo hi w w' → hi ≤ past → WithinTo past v f w p q w' p q
 within-but p q but up = record {
   but = but-widen (omega arith) up but;
   same-length-p = refl;
@@ -136,8 +147,19 @@ within-but p q but up = record {
   rest-q = refl;
 }
 
-pub within-then : {v f : ℕ} {w w' w'' : List ℕ} {p q p' q' p'' q'' : List Float} →
-    Within v f w p q w' p' q' → Within v f w' p' q' w'' p'' q'' → Within v f w p q w'' p'' q''
+-- more cells
+pub within-more : {past past' v f : ℕ} {w w' : List ℕ} {p q p' q' : List Float} → past ≤ past' →
+    WithinTo past v f w p q w' p' q' → WithinTo past' v f w p q w' p' q'
+within-more up one = record {
+  but = but-widen (omega arith) up (one .but);
+  same-length-p = one .same-length-p;
+  same-length-q = one .same-length-q;
+  rest-p = one .rest-p;
+  rest-q = one .rest-q;
+}
+
+pub within-then : {past v f : ℕ} {w w' w'' : List ℕ} {p q p' q' p'' q'' : List Float} →
+    WithinTo past v f w p q w' p' q' → WithinTo past v f w' p' q' w'' p'' q'' → WithinTo past v f w p q w'' p'' q''
 within-then one two = record {
   but = but-then (one .but) (two .but);
   same-length-p = two .same-length-p ∙ one .same-length-p;

@@ -47,18 +47,25 @@ pub record Listed (v f : ℕ) (w : List ℕ) (keep remove near n far m : ℕ) : 
   pub one-after-other : near + f ≤ far
   pub within : far + f ≤ length w
 
--- only the walk's own cells changed: below 15F + 4V of the u32 memory, 3V of the f32 and 10V of the f64
-pub record Within (v f : ℕ) (w : List ℕ) (p q : List Float) (w' : List ℕ) (p' q' : List Float) : Type 0 where
-  pub but : But 0 (15 * f + 4 * v) w w'
+-- only some cells changed: those below past of the u32 memory, 3V + 9F of the f32 and 10V + 3F of the f64
+pub record WithinTo (past v f : ℕ) (w : List ℕ) (p q : List Float) (w' : List ℕ) (p' q' : List Float) : Type 0 where
+  pub but : But 0 past w w'
   pub same-length-p : length p' ≡ length p
   pub same-length-q : length q' ≡ length q
-  pub rest-p : drop (3 * v) p' ≡ drop (3 * v) p
-  pub rest-q : drop (10 * v) q' ≡ drop (10 * v) q
+  pub rest-p : drop (3 * v + 9 * f) p' ≡ drop (3 * v + 9 * f) p
+  pub rest-q : drop (10 * v + 3 * f) q' ≡ drop (10 * v + 3 * f) q
+
+-- a step's own cells, and a walk's: it writes the folds down too
+abbrev pub StepWithin : (v f : ℕ) (w : List ℕ) (p q : List Float) (w' : List ℕ) (p' q' : List Float) → Type 0
+StepWithin v f = WithinTo (24 * f + 5 * v) v f
+
+abbrev pub Within : (v f : ℕ) (w : List ℕ) (p q : List Float) (w' : List ℕ) (p' q' : List Float) → Type 0
+Within v f = WithinTo (26 * f + 5 * v) v f
 
 -- An answer is given and acted on: the state after it is the plain walk's, the open pairs in any order.
 pub record AnswerDone (v f : ℕ) (w : List ℕ) (p q : List Float) (n : ℕ) (limit : Limit) (bound : Float) (a : Answer) (w' : List ℕ) (p' q' : List Float) (r : Stepped) : Type 0 where
   pub holds : Holds v f w' p' q' (r .«open») (r .live)
-  pub within : Within v f w p q w' p' q'
+  pub within : StepWithin v f w p q w' p' q'
   pub same-answer : answerOf (r .step) ≡ a
   pub same-state : SameState (stateOf v f w' p' q' (r .«open»)) (after (rulesOf limit bound) (stateOf v f w p q n) a)
 

@@ -1,13 +1,13 @@
 // The plain walk: the meaning of thinning, as code. Every cost is worked out anew at each step.
 ghost use mathlib.Core.Path.{_≡_};
-ghost use Prim.Native.Nat.{_+_, _*_, _≤_};
+ghost use Prim.Native.Nat.{_+_, _*_, _≤_, _<_};
 ghost use lib.ListN.{length};
 ghost use Rattle.surface.specs.Walk.{pairOf, folded};
-ghost use Rattle.mesh.specs.Memory.{liveFaces};
+ghost use Rattle.mesh.specs.Memory.{Room, liveFaces};
 ghost use Rattle.mesh.specs.Chains.{Tidy};
 ghost use Rattle.pairs.specs.Memory.{stateOf};
 ghost use Rattle.walks.specs.Steps.{Holds, Found, Listed, AnswerDone, PairTried, StepDone};
-ghost use Rattle.walks.specs.Whole.{WalkedFrom, WalkDone};
+ghost use Rattle.walks.specs.Whole.{noted, WalkedFrom, WalkDone};
 use pairs::Least;
 use placement::Limit;
 use surface::Pair;
@@ -202,6 +202,16 @@ pub fn plain_step(
     try_pair(w, p, q, v, f, open, live, least, limit, bound)
 }
 
+// Writes a fold down, after others.
+pub fn note_fold(w: &mut [u32], v: usize, f: usize, folds: usize, pair: Pair)
+    requires { ⌜ folds < f ⌝ ∗ ⌜ Room v f (now w) ⌝ }
+    ensures { λ _. ⌜ now (w .exit) ≡ noted v f folds (pair .keep) (pair .remove) (now (w .entry)) ⌝ }
+{
+    let at = 24 * f + 5 * v + 2 * folds;
+    w[at] = pair.keep;
+    w[at + 1] = pair.remove;
+}
+
 // Takes steps of the plain walk from any state, to the end.
 fn walk_on(
     w: &mut [u32],
@@ -227,7 +237,8 @@ fn walk_on(
         faces_live = stepped.live;
         let step = stepped.step;
         match step {
-            Step::Folded(_) => {
+            Step::Folded(pair) => {
+                note_fold(w, v, f, folds, pair);
                 folds += 1;
             }
             Step::Closed(_) => {}

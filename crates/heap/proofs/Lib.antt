@@ -1,0 +1,3 @@
+pub mod HeapLaws
+pub mod SwapLaws
+pub mod PopLaws

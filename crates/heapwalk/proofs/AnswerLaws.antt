@@ -1,0 +1,143 @@
+-- A step's answer: at the end, and of a pair that is off the queue.
+-- Assumes nothing.
+use Prim.Native.Nat.{ℕ, _+_, _*_, _≤_}
+use native.Mathlib.Omega.{arith}
+use mathlib.Core.Path.{_≡_, refl, sym, ap, _∙_}
+use mathlib.Core.List.{List}
+use mathlib.Core.Bool.{Bool, true, false, cond, false≢true}
+use lib.Dec.{leb}
+use lib.Ieee.{Float}
+use lib.ListN.{length}
+use borrow.Author.Tests.{le-leb}
+use Rattle.geometry.specs.declared.Point.{Point}
+use Rattle.placement.specs.declared.Limit.{Limit}
+use Rattle.placement.specs.declared.pair.Vertex.{Vertex}
+use Rattle.surface.specs.Lists.{sum, those, some, without, below}
+use Rattle.surface.specs.Folding.{Mesh, allowed}
+use Rattle.surface.specs.Walk.{folded, closed, ended, pairOf, tried, chosen, answer, after, SameState}
+use Rattle.surface.proofs.SamePairs.{same-self}
+use Rattle.surface.proofs.BagLaws.{bag-refl}
+use Rattle.surface.proofs.SoundLaws.{close-sound}
+use Rattle.mesh.specs.Memory.{liveFaces, But}
+use Rattle.mesh.proofs.TidyLaws.{tidy-but}
+use Rattle.mesh.proofs.AroundLaws.{live-faces-but}
+use Rattle.vertices.specs.Memory.{meshOf}
+use Rattle.vertices.specs.Rules.{rulesOf}
+use Rattle.pairs.specs.Memory.{pairAt}
+use Rattle.queue.specs.Memory.{placeIn, openIn, heapState}
+use Rattle.queue.specs.Changes.{Fewer, NoneLeft}
+use Rattle.walks.specs.declared.Step.the-variants.{Closed, Ended}
+use Rattle.walks.specs.declared.Stepped.{Stepped}
+use Rattle.walks.proofs.StateLaws.{same-refl, sound-bag}
+use Rattle.walks.specs.Steps.{StepWithin}
+use Rattle.walks.proofs.MemoryLaws.{mesh-but, within-refl, within-but}
+use Rattle.heapwalk.specs.Steps.{topState, pairState, HeapHolds, TopHolds, PairHolds, PairAnswer, TopTried, HeapStepDone}
+use Rattle.heapwalk.proofs.MovedLaws.{moved-but, kept-moved}
+use Rattle.heapwalk.proofs.MemoryLaws.{answer-before, pair-state-but}
+
+-- ---- a pair that is off the queue
+
+module _ {v f : ℕ} {w : List ℕ} {p q : List Float} {n live : ℕ} {bound : Float} {keep remove : ℕ} {place : Point}
+    (h : PairHolds v f w p q n live bound keep remove place) (limit : Limit) where
+  -- closed, it is open no more: what is left is the queue's
+  closed-state : SameState (heapState v f w p q n) (after (rulesOf limit bound) (pairState v f w p q n (pairOf keep remove)) (closed (pairOf keep remove)))
+  unfolding heapState pairState after without
+  closed-state = record { same-mesh = refl; same-open = rw (same-self (pairOf keep remove)) bag-refl }
+
+  pub closed-done : PairAnswer v f w p q n keep remove limit bound (closed (pairOf keep remove)) w p q
+      (record { step = Closed (pairOf keep remove); «open» = n; live = live })
+  closed-done =
+      let x = pairOf keep remove in
+      record {
+        holds =
+            record {
+              «open» = h .held .«open»;
+              sound = sound-bag closed-state (close-sound (rulesOf limit bound) (pairState v f w p q n x) (h .held .sound) x);
+              counted = h .held .counted;
+              young = h .held .young;
+            };
+        within = within-refl _ v f w p q;
+        same-answer = refl;
+        same-state = closed-state;
+      }
+
+-- what the test says decides which answer is given
+pub tried-by : (v f : ℕ) (w : List ℕ) (p q : List Float) (n keep remove : ℕ) (limit : Limit) (bound : Float) {w' : List ℕ} {p' q' : List Float} {r : Stepped}
+    (ok passed : Bool) → ok ≡ passed → ok ≡ allowed (rulesOf limit bound) (meshOf v f w p q) (pairOf keep remove) →
+    PairAnswer v f w p q n keep remove limit bound (cond passed (folded (pairOf keep remove)) (closed (pairOf keep remove))) w' p' q' r →
+    PairAnswer v f w p q n keep remove limit bound (tried (rulesOf limit bound) (meshOf v f w p q) (pairOf keep remove)) w' p' q' r
+unfolding tried
+tried-by v f w p q n keep remove limit bound ok passed e is done = rw (← is, e) done
+
+-- what is done after cells of near and far have changed is done to the state as it was
+pub tried-before : {v f : ℕ} {w w₁ : List ℕ} {p q : List Float} {n live lo hi : ℕ} {limit : Limit} {bound : Float} {keep remove : ℕ} {place : Point}
+    {w' : List ℕ} {p' q' : List Float} {r : Stepped} → PairHolds v f w p q n live bound keep remove place →
+    But lo hi w w₁ → 13 * f + 4 * v ≤ lo → hi ≤ 15 * f + 5 * v →
+    PairAnswer v f w₁ p q n keep remove limit bound (tried (rulesOf limit bound) (meshOf v f w₁ p q) (pairOf keep remove)) w' p' q' r →
+    PairAnswer v f w p q n keep remove limit bound (tried (rulesOf limit bound) (meshOf v f w p q) (pairOf keep remove)) w' p' q' r
+tried-before {v} {f} {w} {w₁} {p} {q} {limit = limit} {bound = bound} {keep = keep} {remove = remove} h but above up done =
+    answer-before (within-but p q but (omega arith)) (rw (pair-state-but (h .held .«open») but above up (pairOf keep remove)) same-refl)
+    (ap (λ (m : Mesh Vertex). tried (rulesOf limit bound) m (pairOf keep remove)) (mesh-but v f p q but (omega arith))) done
+
+-- the pair of the entry that was taken off, as it is read
+module _ (v f : ℕ) (w : List ℕ) (p q : List Float) (n s : ℕ) {bound : Float} {keep remove : ℕ}
+    (same-keep : keep ≡ pairAt v f w s .keep) (same-remove : remove ≡ pairAt v f w s .remove) where
+  pub top-pair : {live : ℕ} {place : Point} → place ≡ placeIn v p s → TopHolds v f w p q n live bound s →
+      PairHolds v f w p q n live bound keep remove place
+  unfolding pairState
+  top-pair same-place h = rw (same-keep, same-remove, same-place) (record { held = h .held; same-place = h .place })
+
+  pub top-tried : {limit : Limit} {w' : List ℕ} {p' q' : List Float} {r : Stepped} →
+      PairAnswer v f w p q n keep remove limit bound (tried (rulesOf limit bound) (meshOf v f w p q) (pairOf keep remove)) w' p' q' r →
+      TopTried v f w p q n s limit bound w' p' q' r
+  unfolding pairState
+  top-tried done = rw (same-keep, same-remove) at done
+
+-- ---- the end
+
+-- with no open pair it makes no difference whether the target is met
+either-way : (b : Bool) → cond b ended ended ≡ ended
+either-way true = refl
+either-way false = refl
+
+module _ {v f : ℕ} {w : List ℕ} {p q : List Float} {n live : ℕ} {bound : Float} (h : HeapHolds v f w p q n live bound) (target : ℕ) (limit : Limit) where
+  -- where the answer is the end, the state stays
+  ended-done : {w' : List ℕ} {n' : ℕ} → answer (rulesOf limit bound) target (heapState v f w p q n) ≡ ended → HeapHolds v f w' p q n' live bound →
+      StepWithin v f w p q w' p q → SameState (heapState v f w' p q n') (heapState v f w p q n) →
+      HeapStepDone v f w p q n target limit bound w' p q (record { step = Ended; «open» = n'; live = live })
+  unfolding after
+  ended-done e holds within same = record { holds = holds; within = within; same-answer = sym e; same-state = rw e same }
+
+  -- at the target
+  pub at-target : live ≤ target → HeapStepDone v f w p q n target limit bound w p q (record { step = Ended; «open» = n; live = live })
+  unfolding answer heapState meshOf
+  at-target few = ended-done (rw (le-leb (length (liveFaces f w)) target (omega (arith, h .counted)))) h (within-refl _ v f w p q) same-refl
+
+  -- with no current entry
+  module _ {w' : List ℕ} (gone : NoneLeft v f w q n w') where
+    none-same : SameState (heapState v f w' p q 0) (heapState v f w p q n)
+    unfolding heapState openIn below those
+    none-same = record { same-mesh = mesh-but v f p q (gone .but) (omega arith); same-open = record { sums = λ g. ap (sum g) (sym (gone .none)) } }
+
+    none-fewer : Fewer v f w n w' 0
+    unfolding below some
+    none-fewer s e = absurd (false≢true e)
+
+    none-holds : HeapHolds v f w' p q 0 live bound
+    none-holds = record {
+      «open» =
+          record {
+            tidy = tidy-but (omega arith) (gone .but) (h .«open» .tidy);
+            places-long = h .«open» .places-long;
+            queue = gone .queue;
+            kept = kept-moved (moved-but p q (gone .but) (omega arith) (omega arith)) (h .«open» .queue) (h .«open» .kept) none-fewer;
+          };
+      sound = sound-bag none-same (h .sound);
+      counted = h .counted ∙ ap length (sym (live-faces-but f (gone .but) (omega arith)));
+      young = λ x l. rw (gone .but .under (7 * f + 3 * v + x) (omega arith)) (h .young x l);
+    }
+
+    pub none-left : HeapStepDone v f w p q n target limit bound w' p q (record { step = Ended; «open» = 0; live = live })
+    unfolding answer chosen heapState meshOf
+    none-left =
+        ended-done (rw (gone .none) (either-way (leb (length (liveFaces f w)) target))) none-holds (within-but p q (gone .but) (omega arith)) none-same

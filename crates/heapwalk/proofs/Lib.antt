@@ -1,0 +1,10 @@
+-- Laws of the heap walk in memory, leaves first.
+pub mod ListLaws
+pub mod SlotLaws
+pub mod MovedLaws
+pub mod MemoryLaws
+pub mod StampLaws
+pub mod FoldedLaws
+pub mod AnswerLaws
+pub mod TakenLaws
+pub mod HoldLaws

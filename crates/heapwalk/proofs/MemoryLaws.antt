@@ -1,0 +1,153 @@
+-- What a state in memory hangs on, and a pair of it that is off the queue.
+-- Assumes nothing.
+use Prim.Native.Nat.{ℕ, _+_, _*_, _-_, _≤_, _<_}
+use native.Mathlib.Omega.{arith}
+use mathlib.Core.Path.{_≡_, refl, sym, ap, ap₂, subst, _∙_}
+use mathlib.Core.Logic.{_≢_}
+use mathlib.Core.List.{List}
+use lib.Ieee.{Float}
+use lib.ListN.{length, getD, drop}
+use lib.Seq.{getD-drop}
+use Rattle.geometry.specs.declared.Point.{Point}
+use Rattle.placement.specs.declared.Limit.{Limit}
+use Rattle.placement.specs.declared.pair.Vertex.{Vertex}
+use Rattle.placement.specs.Pairs.{pairPlace}
+use Rattle.surface.specs.declared.Pair.{Pair}
+use Rattle.surface.specs.Lists.{sum}
+use Rattle.surface.specs.Faces.{shared}
+use Rattle.surface.specs.Walk.{State, Answer, pairOf, after, SameState}
+use Rattle.surface.proofs.SamePairs.{same-self}
+use Rattle.surface.proofs.SoundLaws.{isOpen, open-differ, open-shared, open-below}
+use Rattle.surface.proofs.BagWalk.{after-bag}
+use Rattle.mesh.specs.Memory.{liveFaces, But}
+use Rattle.mesh.proofs.TidyLaws.{tidy-but}
+use Rattle.mesh.proofs.AroundLaws.{live-faces-but}
+use Rattle.vertices.specs.Memory.{vertexAt, meshOf}
+use Rattle.vertices.specs.Rules.{rulesOf}
+use Rattle.vertices.proofs.BelowLaws.{each-same}
+use Rattle.vertices.proofs.MeshLaws.{mesh-length, mesh-of-parts}
+use Rattle.heap.specs.Memory.{slotAt}
+use Rattle.queue.specs.Memory.{openIn}
+use Rattle.queue.specs.Changes.{FloatsBut}
+use Rattle.queueing.specs.Entering.{Open}
+use Rattle.walks.specs.declared.Stepped.{Stepped}
+use Rattle.walks.proofs.StateLaws.{same-trans}
+use Rattle.walks.specs.Steps.{StepWithin}
+use Rattle.walks.proofs.MemoryLaws.{mesh-but, vertex-but, within-then}
+use Rattle.heapwalk.specs.Steps.{pairState, PairHolds, HeapAnswer}
+use Rattle.heapwalk.proofs.ListLaws.{those-all}
+use Rattle.heapwalk.proofs.MovedLaws.{moved-but, queue-moved, fewer-moved, open-moved, kept-moved}
+
+-- ---- floats
+
+-- two memories that agree from m on agree in each cell from there
+pub past-drop : {A : Type 0} (d : A) (p' p : List A) (m : ℕ) → drop m p' ≡ drop m p → (k : ℕ) → m ≤ k → getD p' k d ≡ getD p k d
+past-drop {A} d p' p m same k past =
+    let there : m + (k - m) ≡ k = omega arith in
+    ap (λ (i : ℕ). getD p' i d) (sym there)
+    ∙ sym (getD-drop m p' (k - m) d)
+    ∙ ap (λ (l : List A). getD l (k - m) d) same
+    ∙ getD-drop m p (k - m) d
+    ∙ ap (λ (i : ℕ). getD p i d) there
+
+-- the mesh: on the floats of its points
+pub mesh-floats : (v f : ℕ) (w : List ℕ) {p q p' q' : List Float} {up-p up-q : ℕ} → FloatsBut (3 * v) up-p p p' → FloatsBut (10 * v) up-q q q' →
+    meshOf v f w p' q' ≡ meshOf v f w p q
+unfolding meshOf
+mesh-floats v f w {p} {q} {p'} {q'} points quadrics =
+    mesh-of-parts _ _ _ _
+    (each-same (vertexAt v f w p q) (vertexAt v f w p' q') v
+    (λ x l. rw (
+      points .under (3 * x) (omega arith),
+      points .under (3 * x + 1) (omega arith),
+      points .under (3 * x + 2) (omega arith),
+      quadrics .under (10 * x) (omega arith),
+      quadrics .under (10 * x + 1) (omega arith),
+      quadrics .under (10 * x + 2) (omega arith),
+      quadrics .under (10 * x + 3) (omega arith),
+      quadrics .under (10 * x + 4) (omega arith),
+      quadrics .under (10 * x + 5) (omega arith),
+      quadrics .under (10 * x + 6) (omega arith),
+      quadrics .under (10 * x + 7) (omega arith),
+      quadrics .under (10 * x + 8) (omega arith),
+      quadrics .under (10 * x + 9) (omega arith),
+    )))
+    refl
+
+-- ---- an answer that is given after a change that leaves the state
+
+pub answer-before : {v f : ℕ} {s t : State Vertex} {w w₁ : List ℕ} {p q p₁ q₁ : List Float} {limit : Limit} {bound : Float} {a b : Answer}
+    {w' : List ℕ} {p' q' : List Float} {r : Stepped} → StepWithin v f w p q w₁ p₁ q₁ → SameState t s → b ≡ a →
+    HeapAnswer v f t w₁ p₁ q₁ limit bound b w' p' q' r → HeapAnswer v f s w p q limit bound a w' p' q' r
+answer-before {v} {f} {s} {t} {limit = limit} {bound = bound} {a = a} {b = b} within same e done = record {
+  holds = done .holds;
+  within = within-then within (done .within);
+  same-answer = done .same-answer ∙ e;
+  same-state =
+      same-trans (done .same-state)
+      (subst (λ (c : Answer). SameState (after (rulesOf limit bound) t b) (after (rulesOf limit bound) s c)) e (after-bag (rulesOf limit bound) same b));
+}
+
+-- ---- a pair that is off the queue
+
+-- the state: on the cells below those of near and far, and on the entries
+module _ {v f : ℕ} {w : List ℕ} {p q : List Float} {n lo hi : ℕ} {bound : Float} {w' : List ℕ}
+    (before : Open v f w p q n bound) (but : But lo hi w w') (above : 13 * f + 4 * v ≤ lo) (up : hi ≤ 15 * f + 5 * v) where
+  order-but : (i : ℕ) → i < 3 * f → slotAt v f w' i ≡ slotAt v f w i
+  order-but i l = but .over (15 * f + 5 * v + i) (omega arith)
+
+  pub open-pairs-but : openIn v f w' n ≡ openIn v f w n
+  open-pairs-but =
+      open-moved (moved-but p q but above (omega arith)) (before .queue) (before .kept) order-but
+      ∙ those-all (openIn v f w n)
+
+  pub pair-state-but : (x : Pair) → pairState v f w' p q n x ≡ pairState v f w p q n x
+  unfolding pairState
+  pair-state-but x = rw (mesh-but v f p q but (omega arith), open-pairs-but)
+
+  pub open-but : Open v f w' p q n bound
+  open-but =
+      let moved = moved-but p q but above (omega arith) in
+      record {
+        tidy = tidy-but (omega arith) but (before .tidy);
+        places-long = before .places-long;
+        queue = queue-moved moved (before .queue) order-but (but .same-length) refl;
+        kept = kept-moved moved (before .queue) (before .kept) (fewer-moved moved (before .queue) order-but);
+      }
+
+module _ {v f : ℕ} {w : List ℕ} {p q : List Float} {n live : ℕ} {bound : Float} {keep remove : ℕ} {place : Point}
+    (h : PairHolds v f w p q n live bound keep remove place) where
+  -- it is open
+  pub pair-open : isOpen (pairState v f w p q n (pairOf keep remove)) (pairOf keep remove)
+  unfolding pairState sum
+  pair-open = rw (same-self (pairOf keep remove)) (omega arith)
+
+  -- and of two points below v, that some live face holds
+  pub pair-points : (keep < v) × (remove < v)
+  unfolding pairState
+  pair-points = rw mesh-length at (open-below (pairState v f w p q n (pairOf keep remove)) (h .held .sound) (pairOf keep remove) pair-open)
+
+  pub pair-differ : keep ≢ remove
+  pair-differ = open-differ (pairState v f w p q n (pairOf keep remove)) (h .held .sound) (pairOf keep remove) pair-open
+
+  pub pair-shared : 0 < shared (liveFaces f w) keep remove
+  unfolding pairState meshOf
+  pair-shared = open-shared (pairState v f w p q n (pairOf keep remove)) (h .held .sound) (pairOf keep remove) pair-open
+
+  -- cells of near and far may change
+  pub pair-but : {lo hi : ℕ} {w' : List ℕ} → But lo hi w w' → 13 * f + 4 * v ≤ lo → hi ≤ 15 * f + 5 * v →
+      PairHolds v f w' p q n live bound keep remove place
+  pair-but {lo} {hi} {w'} but above up = record {
+    held =
+        record {
+          «open» = open-but (h .held .«open») but above up;
+          sound = rw (pair-state-but (h .held .«open») but above up (pairOf keep remove)) (h .held .sound);
+          counted = h .held .counted ∙ ap length (sym (live-faces-but f but (omega arith)));
+          young = λ x l. rw (but .under (7 * f + 3 * v + x) (omega arith)) (h .held .young x l);
+        };
+    same-place =
+        h .same-place
+        ∙ sym (ap₂ (pairPlace bound)
+        (vertex-but v f p q but (omega arith) keep (pair-points .0))
+        (vertex-but v f p q but (omega arith) remove (pair-points .1)));
+  }

@@ -1,0 +1,31 @@
+-- `heapwalk::heap_walk` meets its contract: once the first pairs are in the queue the memory holds the start, and the walk from there is the whole walk.
+-- Assumes nothing.
+use borrow.Author.Needs.{needs}
+use Rattle.heapwalk.proofs.HoldLaws.{start-holds, walk-done}
+use Rattle.heapwalk.proofs.heap_walk.Statement.{statement}
+use Rattle.heapwalk.proofs.heap_walk.Tie as tie
+
+enter-start-requires : tie.Need-enter-start-requires
+enter-start-requires c κs = search needs
+
+walk-on-requires : tie.Need-walk-on-requires
+walk-on-requires c κs =
+    let s = c .before .before .before .before .before .before .before .before .before .before .before .before .before .before .before .before in
+    start-holds (s .args .limit) (s .args .bound) (s .pre .0) (s .pre .1 .0) (c .before .before .before .before .before .before .before .before .before .enter-start .ensures)
+
+same-length : tie.Need-same-length
+same-length c = search needs
+
+same-length-2 : tie.Need-same-length-2
+same-length-2 c = search needs
+
+same-length-3 : tie.Need-same-length-3
+same-length-3 c = search needs
+
+returns : tie.Need-returns
+returns c =
+    let s = c .before .before .before .before .before .before .before .before .before .before .before .before .before .before .before .before .before .before .before .before .before .before .before in
+    walk-done (s .args .limit) (s .args .bound) (s .pre .0) (s .pre .1 .0) (c .before .before .before .before .before .before .before .before .before .before .before .before .before .before .before .before .enter-start .ensures) (c .before .before .before .before .before .before .walk-on .ensures)
+
+pub heap-walk-spec : {M : Type 1} → statement M
+heap-walk-spec = tie.close (tie.spec enter-start-requires walk-on-requires same-length same-length-2 same-length-3 returns)

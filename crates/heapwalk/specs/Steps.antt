@@ -1,0 +1,76 @@
+-- One step of the heap walk in memory, tied to the plain walk's step.
+use Prim.Native.Nat.{ℕ, _+_, _*_, _≤_, _<_}
+use mathlib.Core.Path.{_≡_}
+use mathlib.Core.List.{List, _∷_}
+use lib.ListN.{length}
+use lib.Ieee.{Float}
+use Rattle.placement.specs.declared.Limit.{Limit}
+use Rattle.placement.specs.declared.pair.Vertex.{Vertex}
+use Rattle.placement.specs.Pairs.{pairPlace}
+use Rattle.geometry.specs.declared.Point.{Point}
+use Rattle.surface.specs.declared.Pair.{Pair}
+use Rattle.surface.specs.Walk.{State, Answer, pairOf, tried, answer, after, SameState}
+use Rattle.surface.specs.Sound.{Sound}
+use Rattle.mesh.specs.Memory.{liveFaces}
+use Rattle.vertices.specs.Memory.{vertexAt, meshOf}
+use Rattle.vertices.specs.Rules.{rulesOf}
+use Rattle.pairs.specs.Memory.{pairAt}
+use Rattle.queue.specs.Memory.{stamp, placeIn, openIn, heapState}
+use Rattle.queueing.specs.Entering.{Open}
+use Rattle.walks.specs.declared.Stepped.{Stepped}
+use Rattle.walks.specs.Steps.{answerOf, StepWithin}
+
+-- the state while a pair is off the queue: it is still open
+unfoldable pub pairState : ℕ → ℕ → List ℕ → List Float → List Float → ℕ → Pair → State Vertex
+unfolding meshOf openIn
+pairState v f w p q n x = record { mesh = meshOf v f w p q; «open» = x ∷ openIn v f w n }
+
+-- the same of the entry in slot s
+abbrev pub topState : ℕ → ℕ → List ℕ → List Float → List Float → ℕ → ℕ → State Vertex
+topState v f w p q n s = pairState v f w p q n (pairAt v f w s)
+
+-- What ties the memory to a state of the plain walk: it holds a mesh and a queue, the state is sound, live is the number of live faces, and a stamp
+-- has grown at most once for each face that is gone.
+pub record Held (v f : ℕ) (w : List ℕ) (p q : List Float) (n live : ℕ) (bound : Float) (s : State Vertex) : Type 0 where
+  pub «open» : Open v f w p q n bound
+  pub sound : Sound s
+  pub counted : live ≡ length (liveFaces f w)
+  pub young : (x : ℕ) → x < v → stamp v f w x + live ≤ f
+
+-- between steps
+abbrev pub HeapHolds : (v f : ℕ) (w : List ℕ) (p q : List Float) (n live : ℕ) (bound : Float) → Type 0
+HeapHolds v f w p q n live bound = Held v f w p q n live bound (heapState v f w p q n)
+
+-- while the entry in slot s is off the queue: its stored place is where its pair goes
+pub record TopHolds (v f : ℕ) (w : List ℕ) (p q : List Float) (n live : ℕ) (bound : Float) (s : ℕ) : Type 0 where
+  pub held : Held v f w p q n live bound (topState v f w p q n s)
+  pub slot : s < 3 * f
+  pub place : placeIn v p s ≡ pairPlace bound (vertexAt v f w p q (pairAt v f w s .keep)) (vertexAt v f w p q (pairAt v f w s .remove))
+
+-- the same of a pair that was read, with its place
+pub record PairHolds (v f : ℕ) (w : List ℕ) (p q : List Float) (n live : ℕ) (bound : Float) (keep remove : ℕ) (place : Point) : Type 0 where
+  pub held : Held v f w p q n live bound (pairState v f w p q n (pairOf keep remove))
+  pub same-place : place ≡ pairPlace bound (vertexAt v f w p q keep) (vertexAt v f w p q remove)
+
+-- An answer is given and acted on in a state s: the state after it is the plain walk's, the open pairs in any order.
+pub record HeapAnswer (v f : ℕ) (s : State Vertex) (w : List ℕ) (p q : List Float) (limit : Limit) (bound : Float) (a : Answer) (w' : List ℕ)
+    (p' q' : List Float) (r : Stepped) : Type 0 where
+  pub holds : HeapHolds v f w' p' q' (r .«open») (r .live) bound
+  pub within : StepWithin v f w p q w' p' q'
+  pub same-answer : answerOf (r .step) ≡ a
+  pub same-state : SameState (heapState v f w' p' q' (r .«open»)) (after (rulesOf limit bound) s a)
+
+-- the same in a state with a pair that is off the queue
+abbrev pub PairAnswer : (v f : ℕ) (w : List ℕ) (p q : List Float) (n keep remove : ℕ) (limit : Limit) (bound : Float) (a : Answer) (w' : List ℕ) (p' q' : List Float)
+    (r : Stepped) → Type 0
+PairAnswer v f w p q n keep remove limit bound a w' p' q' r = HeapAnswer v f (pairState v f w p q n (pairOf keep remove)) w p q limit bound a w' p' q' r
+
+-- The pair of the entry that was taken off is folded where the plain walk folds it, and closed where it closes it.
+abbrev pub TopTried : (v f : ℕ) (w : List ℕ) (p q : List Float) (n s : ℕ) (limit : Limit) (bound : Float) (w' : List ℕ) (p' q' : List Float) (r : Stepped) → Type 0
+TopTried v f w p q n s limit bound w' p' q' r =
+    HeapAnswer v f (topState v f w p q n s) w p q limit bound (tried (rulesOf limit bound) (meshOf v f w p q) (pairAt v f w s)) w' p' q' r
+
+-- A step: its answer is the plain walk's, and so is the state after it.
+abbrev pub HeapStepDone : (v f : ℕ) (w : List ℕ) (p q : List Float) (n target : ℕ) (limit : Limit) (bound : Float) (w' : List ℕ) (p' q' : List Float) (r : Stepped) → Type 0
+HeapStepDone v f w p q n target limit bound w' p' q' r =
+    HeapAnswer v f (heapState v f w p q n) w p q limit bound (answer (rulesOf limit bound) target (heapState v f w p q n)) w' p' q' r

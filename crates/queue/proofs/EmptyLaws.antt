@@ -1,0 +1,32 @@
+-- The queue at the start: the stamps are cleared, and each place of the order holds the slot of its own number.
+-- Assumes nothing.
+use Prim.Native.Nat.{ℕ, _+_, _*_, _≤_, zero-le}
+use native.Mathlib.Omega.{arith}
+use mathlib.Core.Path.{ap, _∙_}
+use mathlib.Core.List.{List}
+use lib.ListN.{length}
+use lib.Ieee.{Float}
+use Rattle.mesh.specs.Memory.{Room}
+use Rattle.mesh.specs.Laying.{Written}
+use Rattle.mesh.proofs.Frames.{but-then, but-widen}
+use Rattle.mesh.proofs.AroundLaws.{sum-slots}
+use Rattle.pairs.proofs.BelowLaws.{sum-agree}
+use Rattle.heap.specs.Memory.{slotAt}
+use Rattle.queue.specs.Changes.{Emptied}
+use Rattle.queue.proofs.EntryLaws.{room-but}
+
+pub emptied : {v f : ℕ} {w w' w'' : List ℕ} {q : List Float} → Room v f w → 10 * v + 3 * f ≤ length q →
+    Written (7 * f + 3 * v) v (λ i. 0) w w' → Written (15 * f + 5 * v) (3 * f) (λ i. i) w' w'' → Emptied v f w q w''
+emptied {v} {f} {w} {w'} {w''} room costs-long stamps order =
+    record {
+      but = but-then (but-widen (omega arith) (omega arith) (stamps .but)) (but-widen (omega arith) (omega arith) (order .but));
+      stamps = λ x inside. order .but .under (7 * f + 3 * v + x) (omega arith) ∙ stamps .cells x inside;
+      queue = record {
+        room = room-but (order .but) (room-but (stamps .but) room);
+        costs-long = costs-long;
+        few = zero-le;
+        each-once = λ g.
+            sum-slots g w'' (15 * f + 5 * v) (3 * f) ∙ sum-agree (λ i. g (slotAt v f w'' i)) g (3 * f) (λ i inside. ap g (order .cells i inside));
+        ordered = λ k positive inside low. absurd (omega arith);
+      };
+    }

@@ -1,0 +1,10 @@
+-- Laws of the queue, leaves first.
+pub mod OrderLaws
+pub mod EntryLaws
+pub mod EmptyLaws
+pub mod PopLaws
+pub mod TakeLaws
+pub mod ThrowLaws
+pub mod PushLawsSlots
+pub mod PushLawsEntry
+pub mod PushLaws

@@ -1,0 +1,178 @@
+// The queue of the heap walk: entries with a pair, a cost, a place and two stamps, in lent memory. The least is on top.
+//
+// An entry becomes old when one of its points is touched by a fold. Old entries stay until they come to the top, or until the queue is full: then they
+// are thrown out.
+ghost use mathlib.Core.Path.{_≡_};
+ghost use Prim.Native.Nat.{ℕ, _+_, _*_, _^_, _≤_, _<_};
+ghost use lib.Ieee.{Float};
+ghost use lib.ListN.{length, set};
+ghost use Rattle.placement.specs.Pairs.{pairPlace, pairCost};
+ghost use Rattle.mesh.specs.Memory.{Room};
+ghost use Rattle.vertices.specs.Memory.{vertexAt, withPoint};
+ghost use Rattle.pairs.specs.Memory.{pairAt};
+ghost use Rattle.heap.specs.Memory.{slotAt};
+ghost use Rattle.queue.specs.Memory.{stamp, isCurrent, openIn};
+ghost use Rattle.queue.specs.Queued.{Queue, Named, Entered, Kept};
+ghost use Rattle.queue.specs.Pushing.{RoomMade, EntryPut};
+ghost use Rattle.queue.specs.Changes.{Emptied, Popped, TookCurrent, CurrentFirst, ThrownOut, Pushed};
+use geometry::Point;
+use heap::slot_at;
+use pairs::keep_at;
+use pairs::remove_at;
+
+// What is taken off: the slot of a current entry and the number of entries left, or nothing where none was current.
+pub enum Taken {
+    Entry(usize, usize),
+    Empty,
+}
+
+// A point's stamp.
+pub fn stamp_at(w: &[u32], v: usize, f: usize, x: usize) -> u32
+    requires { ⌜ x < v ⌝ ∗ ⌜ Room v f (now w) ⌝ }
+    ensures { λ r. ⌜ r ≡ stamp v f (now (w .entry)) x ⌝ }
+{
+    w[7 * f + 3 * v + x]
+}
+
+// Makes every entry of a point old.
+pub fn bump(w: &mut [u32], v: usize, f: usize, x: usize)
+    requires { ⌜ x < v ⌝ ∗ ⌜ Room v f (now w) ⌝ ∗ ⌜ stamp v f (now w) x + 1 < 2 ^ 32 ⌝ }
+    ensures { λ _. ⌜ now (w .exit) ≡ set (now (w .entry)) (7 * f + 3 * v + x) (stamp v f (now (w .entry)) x + 1) ⌝ }
+{
+    let old = stamp_at(w, v, f, x);
+    w[7 * f + 3 * v + x] = old + 1;
+}
+
+// The queue at the start: every stamp is 0, and every slot is free.
+pub fn empty(w: &mut [u32], q: &[f64], v: usize, f: usize)
+    requires { ⌜ Room v f (now w) ⌝ ∗ ⌜ 10 * v + 3 * f ≤ length (now q) ⌝ }
+    ensures { λ _. ⌜ Emptied v f (now (w .entry)) (now (q .entry)) (now (w .exit)) ⌝ }
+{
+    mesh::fill(w, 7 * f + 3 * v, v, 0);
+    for i in 0..3 * f {
+        w[15 * f + 5 * v + i] = i as u32;
+    }
+}
+
+// Whether the entry in a slot is current.
+pub fn is_current(w: &[u32], v: usize, f: usize, s: usize) -> bool
+    requires { ⌜ s < 3 * f ⌝ ∗ ⌜ Room v f (now w) ⌝ ∗ ⌜ (pairAt v f (now w) s .keep < v) × (pairAt v f (now w) s .remove < v) ⌝ }
+    ensures { λ r. ⌜ r ≡ isCurrent v f (now (w .entry)) s ⌝ }
+{
+    let keep = keep_at(w, v, f, s) as usize;
+    let remove = remove_at(w, v, f, s) as usize;
+    (w[18 * f + 5 * v + s] == stamp_at(w, v, f, keep))
+        & (w[21 * f + 5 * v + s] == stamp_at(w, v, f, remove))
+}
+
+// Takes the entry on top off. Says its slot.
+pub fn pop(w: &mut [u32], q: &[f64], v: usize, f: usize, n: usize) -> usize
+    requires { ⌜ 0 < n ⌝ ∗ ⌜ Queue v f (now w) (now q) n ⌝ }
+    ensures { λ r. ⌜ Popped v f (now (w .entry)) (now (q .entry)) n (now (w .exit)) r ⌝ }
+{
+    let slot = slot_at(w, v, f, 0);
+    heap::swap(w, v, f, 0, n - 1);
+    heap::sift_down(w, q, v, f, 0, n - 1);
+    slot
+}
+
+// Takes entries off the top up to the first current one.
+pub fn take_current(w: &mut [u32], q: &[f64], v: usize, f: usize, n: usize) -> Taken
+    requires { ⌜ Queue v f (now w) (now q) n ⌝ ∗ ⌜ Named v f (now w) n ⌝ }
+    ensures { λ r. ⌜ TookCurrent v f (now (w .entry)) (now (q .entry)) n (now (w .exit)) r ⌝ }
+{
+    let mut left = n;
+    while 0 < left {
+        let slot = pop(w, q, v, f, left);
+        left -= 1;
+        if is_current(w, v, f, slot) {
+            return Taken::Entry(slot, left);
+        }
+    }
+    Taken::Empty
+}
+
+// Puts the current entries first, in any order. Says how many they are.
+fn gather_current(w: &mut [u32], v: usize, f: usize, n: usize) -> usize
+    requires { ⌜ n ≤ 3 * f ⌝ ∗ ⌜ Room v f (now w) ⌝ ∗ ⌜ ((i : ℕ) → i < n → Entered v f (now w) (slotAt v f (now w) i)) ⌝ }
+    ensures { λ r. ⌜ CurrentFirst v f (now (w .entry)) n (now (w .exit)) r ⌝ }
+{
+    let mut kept = 0;
+    for i in 0..n {
+        let slot = slot_at(w, v, f, i);
+        if is_current(w, v, f, slot) {
+            heap::swap(w, v, f, i, kept);
+            kept += 1;
+        }
+    }
+    kept
+}
+
+// Throws the old entries out. Says how many stay.
+pub fn throw_out(w: &mut [u32], q: &[f64], v: usize, f: usize, n: usize) -> usize
+    requires { ⌜ Queue v f (now w) (now q) n ⌝ ∗ ⌜ Named v f (now w) n ⌝ }
+    ensures { λ r. ⌜ ThrownOut v f (now (w .entry)) (now (q .entry)) n (now (w .exit)) r ⌝ }
+{
+    let kept = gather_current(w, v, f, n);
+    heap::settle(w, q, v, f, kept);
+    kept
+}
+
+// Makes room for an entry: a full queue throws its old entries out. Says how many there are.
+fn make_room(w: &mut [u32], q: &[f64], v: usize, f: usize, n: usize) -> usize
+    requires { ⌜ Queue v f (now w) (now q) n ⌝ ∗ ⌜ Named v f (now w) n ⌝ ∗ ⌜ length (openIn v f (now w) n) < 3 * f ⌝ }
+    ensures { λ r. ⌜ RoomMade v f (now (w .entry)) (now (q .entry)) n (now (w .exit)) r ⌝ }
+{
+    if n == 3 * f {
+        return throw_out(w, q, v, f, n);
+    }
+    n
+}
+
+// Writes an entry into a slot, with the present stamps of its points.
+fn put_entry(
+    w: &mut [u32],
+    p: &mut [f32],
+    q: &mut [f64],
+    v: usize,
+    f: usize,
+    s: usize,
+    keep: u32,
+    remove: u32,
+    cost: f64,
+    place: Point,
+)
+    requires { ⌜ s < 3 * f ⌝ ∗ ⌜ Room v f (now w) ⌝ ∗ ⌜ 3 * v + 9 * f ≤ length (now p) ⌝ ∗ ⌜ 10 * v + 3 * f ≤ length (now q) ⌝ ∗ ⌜ (keep < v) × (remove < v) ⌝ }
+    ensures { λ _. ⌜ EntryPut v f (now (w .entry)) (now (p .entry)) (now (q .entry)) s keep remove cost place (now (w .exit)) (now (p .exit)) (now (q .exit)) ⌝ }
+{
+    let keeps = stamp_at(w, v, f, keep as usize);
+    let removes = stamp_at(w, v, f, remove as usize);
+    pairs::push_pair(w, v, f, s, keep, remove);
+    w[18 * f + 5 * v + s] = keeps;
+    w[21 * f + 5 * v + s] = removes;
+    vertices::set_point(p, v + s, place);
+    q[10 * v + s] = cost;
+}
+
+// Puts an entry into the queue, with the present stamps. A full queue throws its old entries out first. Says how many there are.
+pub fn push(
+    w: &mut [u32],
+    p: &mut [f32],
+    q: &mut [f64],
+    v: usize,
+    f: usize,
+    n: usize,
+    keep: u32,
+    remove: u32,
+    cost: f64,
+    place: Point,
+) -> usize
+    requires { ⌜ Queue v f (now w) (now q) n ⌝ ∗ ⌜ Named v f (now w) n ⌝ ∗ ⌜ 3 * v + 9 * f ≤ length (now p) ⌝ ∗ ⌜ (keep < v) × (remove < v) ⌝ ∗ ⌜ length (openIn v f (now w) n) < 3 * f ⌝ }
+    ensures { λ r. ⌜ Pushed v f (now (w .entry)) (now (p .entry)) (now (q .entry)) n keep remove (now (w .exit)) (now (p .exit)) (now (q .exit)) r ⌝ ∗ ⌜ ((bound : Float) → Kept v f (now (w .entry)) (now (p .entry)) (now (q .entry)) n bound → cost ≡ pairCost bound (vertexAt v f (now (w .entry)) (now (p .entry)) (now (q .entry)) keep) (vertexAt v f (now (w .entry)) (now (p .entry)) (now (q .entry)) remove) → place ≡ pairPlace bound (vertexAt v f (now (w .entry)) (now (p .entry)) (now (q .entry)) keep) (vertexAt v f (now (w .entry)) (now (p .entry)) (now (q .entry)) remove) → Kept v f (now (w .exit)) (now (p .exit)) (now (q .exit)) r bound) ⌝ }
+{
+    let count = make_room(w, q, v, f, n);
+    let slot = slot_at(w, v, f, count);
+    put_entry(w, p, q, v, f, slot, keep, remove, cost, place);
+    heap::sift_up(w, q, v, f, count);
+    count + 1
+}

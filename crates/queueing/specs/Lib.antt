@@ -1,0 +1,3 @@
+-- Pairs are opened into the queue.
+pub mod Entering
+pub mod Listing

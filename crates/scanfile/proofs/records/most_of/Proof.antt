@@ -1,0 +1,22 @@
+-- `scanfile::records::most_of` meets its contract: each return is a case of the definition.
+-- Assumes nothing.
+use native.Mathlib.Omega.{arith}
+use borrow.Author.Needs.{needs}
+use borrow.Author.Tests.{eq-eqb, ne-eqb}
+use Rattle.scanfile.proofs.records.most_of.Statement.{statement}
+use Rattle.scanfile.proofs.records.most_of.Tie as tie
+
+mul-result : tie.Need-mul-result
+mul-result c = search needs
+
+mul-result-2 : tie.Need-mul-result-2
+mul-result-2 c = search needs
+
+returns : tie.Need-returns
+returns c = (rw (eq-eqb _ _ (c .if1 .taken)), omega arith)
+
+returns-2 : tie.Need-returns-2
+returns-2 c = (rw (ne-eqb _ _ (c .if1 .left)), omega arith)
+
+pub most-of-spec : {M : Type 1} → statement M
+most-of-spec = tie.close (tie.spec mul-result mul-result-2 returns returns-2)

@@ -1,0 +1,62 @@
+-- What a file is: refused by number and place, or good, with its head (document 01, "The program and its file").
+use Prim.Native.Nat.{ℕ, zero, suc, _+_, _/_, _%_}
+use mathlib.Core.List.{List}
+use mathlib.Core.Bool.{Bool, true, false, cond}
+use lib.Dec.{ltb, eqb}
+use lib.ListN.{length}
+use lib.Ieee.{Float}
+use Rattle.placement.specs.declared.Limit.{Limit}
+use Rattle.placement.specs.declared.Limit.the-variants.{Unlimited, AtMost}
+use Rattle.scanfile.specs.declared.Head.{Head}
+use Rattle.scanfile.specs.declared.Scan.{Scan}
+use Rattle.scanfile.specs.declared.Scan.the-variants.{Good, Bad}
+use Rattle.scanfile.specs.Words.{fourBytes, floatAt}
+use Rattle.scanfile.specs.Records.{sizeAt, recordFault, unitIn, flagsIn, optionsFault}
+
+-- where the third record begins: past the first, 18 long, and the second
+abbrev pub thirdAt : List ℕ → ℕ
+thirdAt bytes = 24 + sizeAt bytes 18
+
+-- where the third record ends
+abbrev pub endOf : List ℕ → ℕ
+endOf bytes = thirdAt bytes + 6 + sizeAt bytes (thirdAt bytes)
+
+-- bit 0 of the flags: preserve; bit 1: a limit is present
+abbrev pub preserveIn : List ℕ → Bool
+preserveIn bytes = eqb (flagsIn bytes % 2) 1
+
+abbrev pub limitedIn : List ℕ → Bool
+limitedIn bytes = eqb (flagsIn bytes / 2 % 2) 1
+
+-- the limit is not looked at without its bit
+abbrev pub limitOf : Bool → Float → Limit
+limitOf true limit = AtMost limit
+limitOf false limit = Unlimited
+
+-- the head of a good file
+abbrev pub headOf : List ℕ → Head
+headOf bytes =
+    record {
+      unit = unitIn bytes;
+      preserve = preserveIn bytes;
+      limit = limitOf (limitedIn bytes) (floatAt bytes 14);
+      ratio = floatAt bytes 10;
+      points = sizeAt bytes 18 / 12;
+      faces = sizeAt bytes (thirdAt bytes) / 12;
+    }
+
+-- refused by a number at a place; where the number is 0, what comes next
+abbrev pub refuse : ℕ → ℕ → Scan → Scan
+refuse zero place next = next
+refuse (suc n) place next = Bad (suc n) place
+
+-- kinds 1, 2 and 3 in that order, once each; after the third no spare byte
+unfoldable pub scanOf : List ℕ → Scan
+unfolding fourBytes recordFault optionsFault
+scanOf bytes =
+    refuse (recordFault bytes 1 0) 0
+    (refuse (optionsFault bytes) 0
+    (refuse (recordFault bytes 2 18) 18
+    (refuse (recordFault bytes 3 (thirdAt bytes)) (thirdAt bytes)
+    (refuse (cond (ltb (endOf bytes) (length bytes)) 25 0) (endOf bytes)
+    (Good (headOf bytes))))))
