@@ -8,3 +8,4 @@ pub mod FoldedLaws
 pub mod AnswerLaws
 pub mod TakenLaws
 pub mod HoldLaws
+pub mod Theorems

@@ -31,13 +31,13 @@ numbers-append [] gs = refl
 numbers-append (f ∷ fs) gs = ap (λ (l : List ℕ). f .a ∷ f .b ∷ f .c ∷ l) (numbers-append fs gs)
 
 -- three numbers to a face
-length-numbers : (fs : List Face) → length (numbersOf fs) ≡ 3 * length fs
+pub length-numbers : (fs : List Face) → length (numbersOf fs) ≡ 3 * length fs
 unfolding numbersOf
 length-numbers [] = refl
 length-numbers (f ∷ fs) = omega (arith, length-numbers fs)
 
 -- as many faces as before
-length-renumbered : (fs : List Face) → length (renumbered fs) ≡ length fs
+pub length-renumbered : (fs : List Face) → length (renumbered fs) ≡ length fs
 unfolding renumbered
 length-renumbered fs = length-map fs (placed (used [] fs))
 

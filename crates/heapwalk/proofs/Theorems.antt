@@ -1,0 +1,75 @@
+-- Demand 3: the heap walk is the plain walk. Its step answers what the plain walk's step answers, three entries for each face are always room enough, and
+-- the two walks make the same folds in the same order and leave the same mesh.
+-- Assumes nothing.
+use Prim.Native.Nat.{ℕ, _+_, _*_, _^_, _≤_}
+use native.Mathlib.Omega.{arith}
+use mathlib.Core.Path.{_≡_, sym, ap, _∙_}
+use mathlib.Core.List.{List}
+use lib.Ieee.{Float}
+use lib.ListN.{length}
+use Rattle.placement.specs.declared.Limit.{Limit}
+use Rattle.surface.specs.declared.Pair.{Pair}
+use Rattle.surface.specs.Walk.{folded, answer, after, SameState}
+use Rattle.surface.proofs.SoundLaws.{isOpen}
+use Rattle.surface.proofs.BagLaws.{bag-sym}
+use Rattle.surface.proofs.BagWalk.{answer-bag, step-bag, sound-fitting}
+use Rattle.surface.proofs.StepLaws.{open-bound, fold-room}
+use Rattle.mesh.specs.Memory.{liveFaces}
+use Rattle.vertices.specs.Memory.{meshOf}
+use Rattle.vertices.specs.Rules.{rulesOf}
+use Rattle.vertices.proofs.MeshLaws.{mesh-length}
+use Rattle.pairs.specs.Memory.{stateOf}
+use Rattle.queue.specs.Memory.{openIn, heapState}
+use Rattle.walks.specs.declared.Stepped.{Stepped}
+use Rattle.walks.specs.declared.Walked.{Walked}
+use Rattle.walks.specs.Steps.{answerOf, StepDone}
+use Rattle.walks.specs.Whole.{foldsIn, WalkDone}
+use Rattle.walks.proofs.StateLaws.{same-trans}
+use Rattle.walks.proofs.MemoryLaws.{live-few}
+use Rattle.heapwalk.specs.Steps.{HeapHolds, HeapStepDone}
+
+-- ---- room
+
+module _ {v f : ℕ} {w : List ℕ} {p q : List Float} {n live : ℕ} {bound : Float} (h : HeapHolds v f w p q n live bound) where
+  -- the entries are never more than three for each input face, and the current ones never more than three for each live one
+  pub three-a-face-hold : (n ≤ 3 * f) × (length (openIn v f w n) ≤ 3 * live)
+  unfolding heapState meshOf
+  three-a-face-hold = (h .«open» .queue .few, omega (arith, open-bound (heapState v f w p q n) (h .sound), h .counted))
+
+  -- after a fold, what stays open and what it opens fit too, with three to spare: so a full queue that throws its old entries out has room for each
+  pub three-a-face-suffice : (limit : Limit) (x : Pair) → isOpen (heapState v f w p q n) x →
+      length (after (rulesOf limit bound) (heapState v f w p q n) (folded x) .«open») + 3 ≤ 3 * f
+  unfolding heapState meshOf
+  three-a-face-suffice limit x is-open = omega (arith, fold-room (rulesOf limit bound) (heapState v f w p q n) (h .sound) x is-open, live-few f w)
+
+-- ---- the step
+
+points-few : {v f : ℕ} {w : List ℕ} {p q : List Float} {n live : ℕ} {bound : Float} → HeapHolds v f w p q n live bound →
+    length (heapState v f w p q n .mesh .points) ≤ 2 ^ 32
+unfolding heapState
+points-few {v} {f} {w} {p} {q} h = omega (arith, mesh-length v f w p q, h .«open» .tidy .room)
+
+module _ {v f : ℕ} {w u : List ℕ} {p q a b : List Float} {n m live : ℕ} (target : ℕ) {limit : Limit} {bound : Float} {w' u' : List ℕ} {p' q' a' b' : List Float} {r s : Stepped}
+    (h : HeapHolds v f w p q n live bound) (same : SameState (heapState v f w p q n) (stateOf v f u a b m))
+    (heap : HeapStepDone v f w p q n target limit bound w' p' q' r) (plain : StepDone v f u a b m target limit bound u' a' b' s) where
+  -- from the same state both steps give the same answer
+  pub same-step : answerOf (r .step) ≡ answerOf (s .step)
+  same-step = heap .same-answer ∙ answer-bag (rulesOf limit bound) same target (sound-fitting (h .sound) (points-few h)) ∙ sym (plain .same-answer)
+
+  -- and come to the same state
+  pub same-state-after : SameState (heapState v f w' p' q' (r .«open»)) (stateOf v f u' a' b' (s .«open»))
+  same-state-after =
+      same-trans (heap .same-state)
+      (same-trans (step-bag (rulesOf limit bound) same target (sound-fitting (h .sound) (points-few h)))
+      (record { same-mesh = sym (plain .same-state .same-mesh); same-open = bag-sym (plain .same-state .same-open) }))
+
+-- ---- the walks
+
+-- whichever walk made them: from the same memory two walks have made the same folds in the same order, and left the same mesh, place by place and bit by bit
+module _ {v f : ℕ} {w : List ℕ} {p q : List Float} {target : ℕ} {limit : Limit} {bound : Float} {w₁ w₂ : List ℕ} {p₁ q₁ p₂ q₂ : List Float} {r₁ r₂ : Walked}
+    (one : WalkDone v f w p q target limit bound w₁ p₁ q₁ r₁) (two : WalkDone v f w p q target limit bound w₂ p₂ q₂ r₂) where
+  pub same-folds-in-order : foldsIn v f w₁ (r₁ .folds) ≡ foldsIn v f w₂ (r₂ .folds)
+  same-folds-in-order = one .same-list ∙ sym (two .same-list)
+
+  pub same-mesh-left : meshOf v f w₁ p₁ q₁ ≡ meshOf v f w₂ p₂ q₂
+  same-mesh-left = one .same-mesh ∙ sym (two .same-mesh)

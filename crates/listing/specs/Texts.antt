@@ -1,0 +1,97 @@
+-- The listing of an answer (document 01, "The program and its file").
+use Prim.Native.Nat.{ℕ, zero, suc, _+_, _*_, _/_}
+use mathlib.Core.List.{List, [], _∷_, _++_}
+use mathlib.Core.Bool.{Bool, not, _&&_}
+use lib.Dec.{leb}
+use lib.ListN.{length, getD}
+use lib.Ieee.{Float, binary32, nan, toBits}
+use Rattle.listing.specs.Digits.{decimal, eightDigits}
+
+-- ---- lines
+
+-- a number, and the byte after it
+abbrev pub numberThen : ℕ → ℕ → List ℕ
+numberThen n end = decimal n ++ (end ∷ [])
+
+-- a float by its bits, and the byte after it
+abbrev pub floatThen : Float → ℕ → List ℕ
+floatThen x end = eightDigits (toBits binary32 x) ++ (end ∷ [])
+
+-- a word and a number, to the end of the line
+abbrev pub wordLine : List ℕ → ℕ → List ℕ
+wordLine word n = word ++ numberThen n 10
+
+-- a point: its three parts
+abbrev pub pointLine : List Float → ℕ → List ℕ
+pointLine points k =
+    floatThen (getD points (3 * k) nan) 32 ++ (floatThen (getD points (3 * k + 1) nan) 32 ++ floatThen (getD points (3 * k + 2) nan) 10)
+
+-- a face: its three points' numbers
+abbrev pub faceLine : List ℕ → ℕ → List ℕ
+faceLine faces k = numberThen (getD faces (3 * k) 0) 32 ++ (numberThen (getD faces (3 * k + 1) 0) 32 ++ numberThen (getD faces (3 * k + 2) 0) 10)
+
+-- the first n lines of a kind, one after the other
+unfoldable pub linesTo : (ℕ → List ℕ) → ℕ → List ℕ
+linesTo line zero = []
+linesTo line (suc n) = linesTo line n ++ line n
+
+-- ---- words, each with the space after it
+
+-- answer
+abbrev pub answerWord : List ℕ
+answerWord = 97 ∷ 110 ∷ 115 ∷ 119 ∷ 101 ∷ 114 ∷ 32 ∷ []
+
+-- place, with the space before it too
+abbrev pub placeWord : List ℕ
+placeWord = 32 ∷ 112 ∷ 108 ∷ 97 ∷ 99 ∷ 101 ∷ 32 ∷ []
+
+-- unit
+abbrev pub unitWord : List ℕ
+unitWord = 117 ∷ 110 ∷ 105 ∷ 116 ∷ 32 ∷ []
+
+-- folds
+abbrev pub foldsWord : List ℕ
+foldsWord = 102 ∷ 111 ∷ 108 ∷ 100 ∷ 115 ∷ 32 ∷ []
+
+-- vertices
+abbrev pub verticesWord : List ℕ
+verticesWord = 118 ∷ 101 ∷ 114 ∷ 116 ∷ 105 ∷ 99 ∷ 101 ∷ 115 ∷ 32 ∷ []
+
+-- faces
+abbrev pub facesWord : List ℕ
+facesWord = 102 ∷ 97 ∷ 99 ∷ 101 ∷ 115 ∷ 32 ∷ []
+
+-- ---- whole texts
+
+-- a refusal: its number and place on one line
+unfoldable pub refusalText : ℕ → ℕ → List ℕ
+refusalText number place = (answerWord ++ decimal number) ++ wordLine placeWord place
+
+-- the lines before the points
+unfoldable pub headText : ℕ → ℕ → ℕ → List ℕ
+headText unit folds v = wordLine answerWord 0 ++ (wordLine unitWord unit ++ (wordLine foldsWord folds ++ wordLine verticesWord v))
+
+-- a mesh of V points and F faces, three numbers to each
+unfoldable pub meshText : ℕ → ℕ → List Float → List ℕ → List ℕ
+meshText unit folds points faces =
+    let v = length points / 3 in
+    let f = length faces / 3 in
+    headText unit folds v ++ (linesTo (pointLine points) v ++ (wordLine facesWord f ++ linesTo (faceLine faces) f))
+
+-- ---- the room that is asked for
+
+-- no refusal is longer
+abbrev pub refusalRoom : ℕ
+refusalRoom = 35
+
+-- no listing of V points and F faces is longer
+abbrev pub meshRoom : ℕ → ℕ → ℕ
+meshRoom v f = 27 * v + 33 * f + 88
+
+-- there is room for a refusal
+abbrev pub refusalFits : ℕ → Bool
+refusalFits room = leb refusalRoom room
+
+-- V and F are within document 01's limits, and there is room for them
+abbrev pub meshFits : ℕ → ℕ → ℕ → Bool
+meshFits room v f = leb v 65536 && (leb f 131072 && leb (meshRoom v f) room)

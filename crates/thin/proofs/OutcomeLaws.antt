@@ -1,0 +1,65 @@
+-- An outcome has three numbers for each point and for each face that its answer counts.
+-- Assumes nothing.
+use Prim.Native.Nat.{ℕ, _*_}
+use native.Mathlib.Omega.{arith}
+use mathlib.Core.Path.{_≡_, refl, sym}
+use mathlib.Core.List.{List, [], _∷_}
+use mathlib.Core.Bool.{Bool, true, false, cond}
+use lib.Dec.{ltb}
+use lib.ListN.{length}
+use Rattle.placement.specs.declared.pair.Vertex.{Vertex}
+use Rattle.surface.specs.Rules.{Rules}
+use Rattle.surface.specs.Folding.{Mesh}
+use Rattle.surface.specs.Renumber.{used, renumbered}
+use Rattle.renumbering.proofs.WritingLaws.{length-numbers, length-renumbered}
+use Rattle.checks.specs.declared.Verdict.{Verdict}
+use Rattle.checks.specs.declared.Verdict.the-variants.{Refused, Copied, Admitted}
+use Rattle.checks.specs.Verdicts.{Input, verdictOf}
+use Rattle.checks.proofs.VerdictLaws as verdicts
+use Rattle.thinning.specs.Outcomes.{Outcome, rulesIn, lastMesh, partsIn, stuck, bordersHeld, refusal, stuckAnswer, thinnedOutcome, outcomeBy, outcome}
+
+pub record Counted (o : Outcome) : Type 0 where
+  pub points : length (o .points) ≡ 3 * o .answer .points
+  pub faces : length (o .faces) ≡ 3 * o .answer .faces
+
+-- ---- a mesh that was thinned
+
+parts-length : (rules : Rules Vertex) (m : Mesh Vertex) (xs : List ℕ) → length (partsIn rules m xs) ≡ 3 * length xs
+unfolding partsIn
+parts-length rules m [] = refl
+parts-length rules m (x ∷ xs) = omega (arith, parts-length rules m xs)
+
+thinned-counted : (i : Input) (preserve : Bool) → Counted (thinnedOutcome i preserve)
+thinned-counted i preserve =
+    let faces = lastMesh i preserve .faces in
+    record {
+      points = parts-length (rulesIn i) (lastMesh i preserve) (used [] faces);
+      faces = omega (arith, length-numbers (renumbered faces), length-renumbered faces);
+    }
+
+-- ---- a walk that is stuck
+
+stuck-counted : (borders : ℕ) → Counted (record { answer = stuckAnswer borders; points = []; faces = []; worked = true })
+stuck-counted borders = by (ltb 0 borders)
+  where
+    by : (held : Bool) → Counted (record { answer = cond held (refusal 10 borders) (refusal 11 0); points = []; faces = []; worked = true })
+    by true = record { points = refl; faces = refl }
+    by false = record { points = refl; faces = refl }
+
+-- ---- any outcome
+
+by-verdict : (d : Verdict) (i : Input) (preserve : Bool) → verdictOf i ≡ d → Counted (outcomeBy d i preserve)
+unfolding outcomeBy
+by-verdict (Refused number place) i preserve e = record { points = refl; faces = refl }
+by-verdict Copied i preserve e =
+    let sized = verdicts.copied i e .sized in
+    record { points = sized .points-by-three; faces = sized .faces-by-three }
+by-verdict Admitted i preserve e = by (stuck i preserve)
+  where
+    by : (held : Bool) → Counted (cond held (record { answer = stuckAnswer (bordersHeld i preserve); points = []; faces = []; worked = true }) (thinnedOutcome i preserve))
+    by true = stuck-counted (bordersHeld i preserve)
+    by false = thinned-counted i preserve
+
+pub counted : (i : Input) (preserve : Bool) → Counted (outcome i preserve)
+unfolding outcome
+counted i preserve = by-verdict (verdictOf i) i preserve refl

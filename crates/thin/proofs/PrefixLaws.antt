@@ -1,0 +1,22 @@
+-- The program may stop reading one byte past the longest good file: the reply to what it has read is the reply to the whole input.
+-- Assumes nothing.
+use Prim.Native.Nat.{ℕ, _≤_}
+use native.Mathlib.Omega.{arith}
+use mathlib.Core.Path.{_≡_, refl, ap, _∙_}
+use mathlib.Core.List.{List}
+use lib.ListN.{take}
+use lib.Seq.{take-all}
+use Rattle.scanfile.specs.declared.Scan.{Scan}
+use Rattle.scanfile.specs.declared.Scan.the-variants.{Good, Bad}
+use Rattle.scanfile.specs.Scans.{scanOf}
+use Rattle.scanfile.proofs.GoodLaws.{good-longest}
+use Rattle.scanfile.proofs.PrefixLaws.{prefix-enough}
+use Rattle.thin.specs.Replies.{replyBy, replyOf}
+
+pub reply-prefix : (n : ℕ) → 4639 ≤ n → (bytes : List ℕ) → replyOf (take n bytes) ≡ replyOf bytes
+unfolding replyOf replyBy
+reply-prefix n most bytes = ap (replyBy (take n bytes)) (prefix-enough n most bytes) ∙ by-scan (scanOf bytes) refl
+  where
+    by-scan : (d : Scan) → scanOf bytes ≡ d → replyBy (take n bytes) d ≡ replyBy bytes d
+    by-scan (Bad number place) e = refl
+    by-scan (Good head) e = ap (λ (read : List ℕ). replyBy read (Good head)) (take-all n bytes (omega (arith, good-longest bytes head e)))

@@ -1,0 +1,110 @@
+-- `thin::write_thinned` meets its contract: the library's call leaves the outcome, and its mesh is listed. Assumes nothing.
+use native.Mathlib.Omega.{arith}
+use mathlib.Core.Path.{_≡_}
+use borrow.Author.Needs.{needs}
+use lib.ListN.{length}
+use Rattle.checks.specs.Verdicts.{Input}
+use Rattle.thinning.specs.Outcomes.{Outcome, outcome}
+use Rattle.thin.specs.Replies.{callOf}
+use Rattle.thin.proofs.OutcomeLaws.{counted}
+use Rattle.thin.proofs.ReplyLaws.{same-call, shown, outcome-texted}
+use Rattle.thin.proofs.write_thinned.Statement.{statement}
+use Rattle.thin.proofs.write_thinned.Tie as tie
+
+-- the function's entry, from where the library has answered
+abbrev start : tie.After-thin-plain → tie.Start
+start c = c .before .before .before .before .before .before .before .before .before .before .before .before .before .before
+
+-- the input that the reply names, and its outcome
+abbrev callHere : tie.After-thin-plain → Input
+callHere c = callOf (start c .args .head) (start c .args .points .now) (start c .args .faces .now)
+
+abbrev outcomeHere : tie.After-thin-plain → Outcome
+outcomeHere c = outcome (callHere c) (start c .args .head .preserve)
+
+point-cells-requires : tie.Need-point-cells-requires
+point-cells-requires c κs = search needs
+
+face-cells-requires : tie.Need-face-cells-requires
+face-cells-requires c κs = search needs
+
+work-u32-cells-requires : tie.Need-work-u32-cells-requires
+work-u32-cells-requires c κs = search needs
+
+work-f32-cells-requires : tie.Need-work-f32-cells-requires
+work-f32-cells-requires c κs = search needs
+
+work-f64-cells-requires : tie.Need-work-f64-cells-requires
+work-f64-cells-requires c κs = search needs
+
+slice-aggregate-thin-plain : tie.Need-slice-aggregate-thin-plain
+slice-aggregate-thin-plain c = search needs
+
+slice-aggregate-thin-plain-2 : tie.Need-slice-aggregate-thin-plain-2
+slice-aggregate-thin-plain-2 c = search needs
+
+slice-aggregate-thin-plain-3 : tie.Need-slice-aggregate-thin-plain-3
+slice-aggregate-thin-plain-3 c = search needs
+
+slice-aggregate-thin-plain-4 : tie.Need-slice-aggregate-thin-plain-4
+slice-aggregate-thin-plain-4 c = search needs
+
+slice-aggregate-thin-plain-5 : tie.Need-slice-aggregate-thin-plain-5
+slice-aggregate-thin-plain-5 c = search needs
+
+thin-plain-requires : tie.Need-thin-plain-requires
+thin-plain-requires c κs = search needs
+
+slice-aggregate-write-answer : tie.Need-slice-aggregate-write-answer
+slice-aggregate-write-answer c = search needs
+
+slice-aggregate-write-answer-2 : tie.Need-slice-aggregate-write-answer-2
+slice-aggregate-write-answer-2 c = search needs
+
+write-answer-requires : tie.Need-write-answer-requires
+write-answer-requires c κs =
+    let called = c .before .before .before .before .before .before .before .before in
+    let left =
+    rw (same-call (start called .args .head) (start called .args .points .now) _ (start called .args .faces .now) _ _ _ _
+    (called .before .before .before .before .before .before .before .before .before .before .point-cells .ensures) (called .before .before .before .before .before .before .before .before .before .face-cells .ensures)
+    (called .before .before .before .before .before .before .before .before .work-u32-cells .ensures) (called .before .before .before .before .before .before .before .work-f32-cells .ensures)
+    (called .before .before .before .before .before .before .work-f64-cells .ensures)) at (called .thin-plain .ensures) in (
+      start called .pre,
+      shown (outcomeHere called) (counted (callHere called) (start called .args .head .preserve)) _ _ (left .answered) (left .points-out) (left .faces-out)
+          (search needs) (search needs),
+    )
+
+same-length : tie.Need-same-length
+same-length c = search needs
+
+returns : tie.Need-returns
+returns c =
+    let called = c .before .before .before .before .before .before .before .before .before .before .before in
+    let left =
+    rw (same-call (start called .args .head) (start called .args .points .now) _ (start called .args .faces .now) _ _ _ _
+    (called .before .before .before .before .before .before .before .before .before .before .point-cells .ensures) (called .before .before .before .before .before .before .before .before .before .face-cells .ensures)
+    (called .before .before .before .before .before .before .before .before .work-u32-cells .ensures) (called .before .before .before .before .before .before .before .work-f32-cells .ensures)
+    (called .before .before .before .before .before .before .work-f64-cells .ensures)) at (called .thin-plain .ensures) in
+    outcome-texted (outcomeHere called) (counted (callHere called) (start called .args .head .preserve)) _ _
+    (left .answered) (left .points-out) (left .faces-out) (start called .args .head .unit) (c .before .before .write-answer .ensures)
+
+pub write-thinned-spec : {M : Type 1} → statement M
+write-thinned-spec =
+    tie.close
+    (tie.spec
+    point-cells-requires
+    face-cells-requires
+    work-u32-cells-requires
+    work-f32-cells-requires
+    work-f64-cells-requires
+    slice-aggregate-thin-plain
+    slice-aggregate-thin-plain-2
+    slice-aggregate-thin-plain-3
+    slice-aggregate-thin-plain-4
+    slice-aggregate-thin-plain-5
+    thin-plain-requires
+    slice-aggregate-write-answer
+    slice-aggregate-write-answer-2
+    write-answer-requires
+    same-length
+    returns)

@@ -1,0 +1,54 @@
+-- Document 01's example and its refusal, from the bytes of the file to the bytes of the listing. The proof computes them from the definitions.
+use Prim.Native.Nat.{ℕ}
+use mathlib.Core.Path.{_≡_, refl}
+use mathlib.Core.List.{List, [], _∷_, map, flatMap}
+use lib.Ieee as ieee
+use lib.Ieee.{binary32, span, climb, size, odd, units, round, neg, add, sub, mul, div, lt, eq, le, ofInt, toUnsigned, isNan, ofFields, ofBits, toBits}
+use Rattle.bits.specs.Cut.{cut, target}
+use Rattle.bits.specs.Narrow.{narrowed}
+use Rattle.bits.specs.Order.{orderKey, floatKey}
+use Rattle.bits.specs.Root as bitsRoot
+use Rattle.bits.specs.Root.{steps, halfway, fourfold, finiteRoot, rootBits, root}
+use Rattle.geometry.specs.Points.{norm, normal, allFinite}
+use Rattle.geometry.specs.Planes.{unitNormal, planeOf}
+use Rattle.placement.specs.Errors.{errorAt}
+use Rattle.placement.specs.Inverses.{inverse}
+use Rattle.placement.specs.Pairs.{pairQuadric, pairLength, pairPlace, pairCost, eligible}
+use Rattle.placement.specs.Places.{solved, stands, tested, cheaper, fallback, placeOf}
+use Rattle.surface.specs.Lists as lists
+use Rattle.surface.specs.Lists.{those, every, some, without, below}
+use Rattle.surface.specs.Faces.{borderPoint, borderCount}
+use Rattle.surface.specs.Folding.{foldedFaces, fairFace, allowed, foldedMesh}
+use Rattle.surface.specs.Walk.{pairsBelow, foldOf, budget, order, least, started, opened, tried, chosen, answer, after, walk, foldList}
+use Rattle.surface.specs.Renumber.{used, placeIn, renumbered, numbersOf}
+use Rattle.vertices.specs.Rules.{fairPoints, mergedVertex, rulesOf}
+use Rattle.vertices.specs.Start.{gathered, startMesh}
+use Rattle.checks.specs.Verdicts.{Input, firstOf, faceVerdict, contentsVerdict, verdictOf}
+use Rattle.thinning.specs.Outcomes.{startOf, targetOf, lastMesh, foldsMade, partsIn, refusal, Outcome, outcomeBy, outcome}
+use Rattle.scanfile.specs.Words.{fourBytes}
+use Rattle.scanfile.specs.Records.{recordFault, optionsFault}
+use Rattle.scanfile.specs.Scans.{scanOf}
+use Rattle.scanfile.specs.Contents.{numbersFrom}
+use Rattle.scanfile.specs.Files.{Contents, asFours, fileOf}
+use Rattle.listing.specs.Digits.{digits, places, decimal, eightDigits}
+use Rattle.listing.specs.Texts.{linesTo, refusalText, headText, meshText}
+use Rattle.listing.specs.Examples.{squareListing, refusalListing}
+use Rattle.thin.specs.Replies.{replyBy, replyOf}
+
+-- the example square as a file: (0,0,0) (2,0,0) (2,2,0) (0,2,0) (1,1,0), millimetres, ratio 0.5, with flags
+abbrev squareFile : ℕ → List ℕ
+squareFile flags =
+    fileOf
+    (record {
+      unit = 1;
+      flags = flags;
+      ratio = 0x3f00_0000;
+      limit = 0;
+      points = 0 ∷ 0 ∷ 0 ∷ 0x4000_0000 ∷ 0 ∷ 0 ∷ 0x4000_0000 ∷ 0x4000_0000 ∷ 0 ∷ 0 ∷ 0x4000_0000 ∷ 0 ∷ 0x3f80_0000 ∷ 0x3f80_0000 ∷ 0 ∷ [];
+      faces = 0 ∷ 1 ∷ 4 ∷ 1 ∷ 2 ∷ 4 ∷ 2 ∷ 3 ∷ 4 ∷ 3 ∷ 0 ∷ 4 ∷ [];
+    })
+
+-- its listing, and its refusal with preserve on
+pub examples-hold : map replyOf (squareFile 0 ∷ squareFile 1 ∷ []) ≡ squareListing ∷ refusalListing ∷ []
+unfolding outcome outcomeBy partsIn foldsMade lastMesh targetOf startOf startMesh gathered rulesOf mergedVertex fairPoints numbersOf renumbered placeIn used foldList walk after answer chosen tried opened started least order budget foldOf pairsBelow foldedMesh allowed fairFace foldedFaces borderCount borderPoint without those every some below lists.sum placeOf fallback cheaper tested stands solved eligible pairCost pairPlace pairLength pairQuadric inverse errorAt planeOf unitNormal allFinite normal norm root rootBits finiteRoot bitsRoot.largest halfway fourfold steps floatKey orderKey narrowed cut target flatMap verdictOf contentsVerdict faceVerdict firstOf span climb size odd units round neg ieee.sum add sub mul div lt eq le ofInt toUnsigned isNan ofFields ofBits toBits replyOf replyBy asFours scanOf recordFault optionsFault fourBytes numbersFrom meshText headText refusalText linesTo eightDigits decimal places digits
+examples-hold = refl

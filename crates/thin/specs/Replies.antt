@@ -1,0 +1,87 @@
+-- The text that the program writes, for any bytes that it reads.
+use Prim.Native.Nat.{ℕ, zero, suc, _+_, _*_, _≤_}
+use mathlib.Core.Path.{_≡_}
+use mathlib.Core.List.{List}
+use lib.ListN.{length}
+use lib.Ieee.{Float}
+use Rattle.checks.specs.Verdicts.{Input}
+use Rattle.thinning.specs.declared.Answer.{Answer}
+use Rattle.thinning.specs.Entry.{largest}
+use Rattle.thinning.specs.Outcomes.{Outcome, outcome}
+use Rattle.scanfile.specs.declared.Head.{Head}
+use Rattle.scanfile.specs.declared.Scan.{Scan}
+use Rattle.scanfile.specs.declared.Scan.the-variants.{Good, Bad}
+use Rattle.scanfile.specs.Scans.{scanOf}
+use Rattle.scanfile.specs.Contents.{pointsOf, facesIn}
+use Rattle.listing.specs.declared.Listed.{Listed}
+use Rattle.listing.specs.declared.Listed.the-variants.{Bytes, NoRoom}
+use Rattle.listing.specs.Texts.{refusalText, meshText}
+use Rattle.listing.specs.Written.{over}
+use Rattle.thin.specs.declared.Got.{Got}
+use Rattle.thin.specs.declared.Got.the-variants as got
+
+-- ---- the reply
+
+-- a number's text: 0 has the mesh, and any other is a refusal
+abbrev pub textBy : ℕ → List ℕ → List ℕ → List ℕ
+textBy zero mesh refusal = mesh
+textBy (suc n) mesh refusal = refusal
+
+-- the text of an answer, with the points and faces of its mesh
+abbrev pub answerText : ℕ → Answer → List Float → List ℕ → List ℕ
+answerText unit r points faces = textBy (r .number) (meshText unit (r .folds) points faces) (refusalText (r .number) (r .place))
+
+-- the text of an outcome
+abbrev pub outcomeText : ℕ → Outcome → List ℕ
+outcomeText unit o = answerText unit (o .answer) (o .points) (o .faces)
+
+-- what the library is handed: the mesh, the options, and memory for 128 points and 256 faces
+abbrev pub callOf : Head → List Float → List ℕ → Input
+callOf head points faces =
+    record {
+      points = points;
+      faces = faces;
+      rooms = record { points = 384; faces = 768; u32s = 10240; f32s = 3584; f64s = 3584 };
+      ratio = head .ratio;
+      limit = head .limit;
+      bound = largest;
+    }
+
+-- the reply to a file that is refused, and to one that is good
+unfoldable pub replyBy : List ℕ → Scan → List ℕ
+replyBy bytes (Bad number place) = refusalText number place
+replyBy bytes (Good head) =
+    outcomeText (head .unit)
+    (outcome (callOf head (pointsOf bytes (head .points)) (facesIn bytes (head .points) (head .faces))) (head .preserve))
+
+-- the reply to any bytes
+unfoldable pub replyOf : List ℕ → List ℕ
+replyOf bytes = replyBy bytes (scanOf bytes)
+
+-- ---- what the program's functions ask and leave
+
+-- how many bytes a listing took
+abbrev pub sizeIn : Listed → ℕ
+sizeIn (Bytes n) = n
+sizeIn NoRoom = 0
+
+-- a text stands at the beginning, the rest is as it came, and the answer is the text's length
+pub record Texted (text old new : List ℕ) (r : ℕ) : Type 0 where
+  pub written : new ≡ over text old
+  pub counted : r ≡ length text
+  pub within : r ≤ length new
+
+-- an answer's mesh is there, and is no larger than the program's memory
+pub record Shown (r : Answer) (points : List Float) (faces : List ℕ) : Type 0 where
+  pub points-there : 3 * r .points ≤ length points
+  pub faces-there : 3 * r .faces ≤ length faces
+  pub points-most : length points ≤ 384
+  pub faces-most : length faces ≤ 768
+
+-- no more bytes were read than there are
+abbrev pub sizeGot : Got → ℕ
+sizeGot (got.Bytes n) = n
+sizeGot got.Failed = 0
+
+pub record Held (r : Got) (input : List ℕ) : Type 0 where
+  pub within : sizeGot r ≤ length input
