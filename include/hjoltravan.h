@@ -18,11 +18,12 @@ extern "C" {
 /* How much memory to lend for V points and F faces, in elements. Longer is fine; the rest is never written. */
 #define HJOLTRAVAN_OUT_POINTS(V, F) (3 * (size_t)(V))
 #define HJOLTRAVAN_OUT_FACES(V, F) (3 * (size_t)(F))
+#define HJOLTRAVAN_FOLDS(V, F) (2 * (size_t)(F))
 #define HJOLTRAVAN_WORK_U32(V, F) (16 * (size_t)(V) + 32 * (size_t)(F))
 #define HJOLTRAVAN_WORK_F32(V, F) (4 * (size_t)(V) + 12 * (size_t)(F))
 #define HJOLTRAVAN_WORK_F64(V, F) (16 * (size_t)(V) + 6 * (size_t)(F))
 
-/* Thins a mesh.
+/* Thins a mesh, by a queue.
 
    points, points_len   x, y, z of each point, 3V floats
    faces, faces_len     the three point numbers of each triangle, from 0, 3F numbers
@@ -34,7 +35,7 @@ extern "C" {
    work_u32, work_f32, work_f64   at least the stated lengths; what they hold at the call doesn't matter
    answer               number, place, points out, faces out, folds made
 
-   Lengths count elements, not bytes. None of the seven lent parts that are written (the two outputs, the three
+   Lengths count elements, not bytes. None of the six lent parts that are written (the two outputs, the three
    work memories and answer) may overlap another part, the inputs included. The two inputs may be the same memory.
 
    The numbers, in the order they are checked:
@@ -65,6 +66,19 @@ void hjoltravan_thin_plain(const float *points, size_t points_len, const uint32_
                            float *out_points, size_t out_points_len, uint32_t *out_faces, size_t out_faces_len,
                            uint32_t *work_u32, size_t work_u32_len, float *work_f32, size_t work_f32_len,
                            double *work_f64, size_t work_f64_len, uint32_t answer[5]);
+
+/* The same as hjoltravan_thin, with a list of the joins made.
+
+   folds, folds_len     any length; HJOLTRAVAN_FOLDS numbers are always enough
+
+   Each join (fold) is two numbers, in the order in which they were made: the point of the input that stays, and the point
+   that is joined to it. As many numbers are written as there is room for, at most twice the folds made; the rest is never
+   written, and on a refusal nothing is. Like the other lent parts folds may not overlap any other part. */
+void hjoltravan_thin_folds(const float *points, size_t points_len, const uint32_t *faces, size_t faces_len,
+                           float ratio, bool preserve, bool limited, float limit,
+                           float *out_points, size_t out_points_len, uint32_t *out_faces, size_t out_faces_len,
+                           uint32_t *work_u32, size_t work_u32_len, float *work_f32, size_t work_f32_len,
+                           double *work_f64, size_t work_f64_len, uint32_t *folds, size_t folds_len, uint32_t answer[5]);
 
 /* The leaves, on bit patterns: the square root of an f32, an f64 rounded to f32, and the signed key of an f64
    whose order is IEEE 754-2019 totalOrder. */

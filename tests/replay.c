@@ -1,17 +1,20 @@
 /* Runs the library on stored cases and compares its answers with the stored
-   ones: the five numbers, the bits of the outputs, and every other cell that
-   was lent.
+   ones: the five numbers, the bits of the outputs, the list of folds, and every
+   other cell that was lent.
 
-       replay [MOST_FACES] < cases
+       replay [MOST_FACES [times]] < cases
 
    The plain walk takes part up to MOST_FACES faces (300 unless given), and in
-   every refusal. The file is described in oracle/src/case.rs. */
+   every refusal. The list of folds is asked for where the header has it. The
+   file is described in oracle/src/case.rs. With `times` the least time of each
+   entry is said, for a file of one mesh. */
 
 #include "../include/hjoltravan.h"
 #include <signal.h>
 #include <stdio.h>
 #include <stdlib.h>
 #include <string.h>
+#include <time.h>
 
 enum { GUARD = 16, MOST_FAMILIES = 64, MAGIC = 0x31636a68 };
 
@@ -160,7 +163,52 @@ static float float_of(uint32_t bits)
 
 typedef __typeof__(hjoltravan_thin) thin_function;
 
-static struct lent points, faces, out_points, out_faces, work_u32, work_f32, work_f64, answer;
+static struct lent points, faces, out_points, out_faces, work_u32, work_f32, work_f64, folds, answer;
+
+#ifdef HJOLTRAVAN_FOLDS
+/* The entry that tells its folds, called like the others. */
+static void thin_folds(const float *p, size_t p_len, const uint32_t *f, size_t f_len,
+                       float ratio, bool preserve, bool limited, float limit,
+                       float *out_p, size_t out_p_len, uint32_t *out_f, size_t out_f_len,
+                       uint32_t *w_u32, size_t w_u32_len, float *w_f32, size_t w_f32_len,
+                       double *w_f64, size_t w_f64_len, uint32_t *five)
+{
+    hjoltravan_thin_folds(p, p_len, f, f_len, ratio, preserve, limited, limit, out_p, out_p_len, out_f, out_f_len,
+                          w_u32, w_u32_len, w_f32, w_f32_len, w_f64, w_f64_len, start(&folds), folds.length, five);
+}
+#endif
+
+/* Room for the list of folds: what suffices, and in some cases more, just
+   enough, a cell too few, a part, or none. */
+static size_t folds_room(const struct one *c)
+{
+    size_t suffices = 2 * (size_t)(c->word[FACES_LEN] / 3), made = 2 * (size_t)c->word[FOLDS];
+    switch (c->number % 8) {
+    case 0: return 0;
+    case 1: return made;
+    case 2: return made ? made - 1 : 0;
+    case 3: return made / 2;
+    case 4: return suffices + 5;
+    default: return suffices;
+    }
+}
+
+/* The cells of the list that are told: as far as there is room. */
+static size_t fold_cells(const struct one *c)
+{
+    size_t made = 2 * (size_t)c->word[FOLDS], room = folds_room(c);
+    return made < room ? made : room;
+}
+
+/* Milliseconds that the last call took. */
+static double took;
+
+static double now(void)
+{
+    struct timespec t;
+    clock_gettime(CLOCK_MONOTONIC, &t);
+    return t.tv_sec * 1e3 + t.tv_nsec * 1e-6;
+}
 
 static void call(thin_function *thin, const struct one *c)
 {
@@ -174,14 +222,17 @@ static void call(thin_function *thin, const struct one *c)
     lend(&work_f32, w[WORK_F32_LEN], salt + 5);
     lend(&work_f64, 2 * (size_t)w[WORK_F64_LEN], salt + 6);
     lend(&answer, 5, salt + 7);
+    lend(&folds, folds_room(c), salt + 8);
     fill(&points, c->list[0], w[POINTS]);
     fill(&faces, c->list[1], w[FACES]);
+    double began = now();
     thin((float *)start(&points), points.length, start(&faces), faces.length,
          float_of(w[RATIO]), w[OPTIONS] & 1, w[OPTIONS] >> 1 & 1, float_of(w[LIMIT]),
          (float *)start(&out_points), out_points.length,
          start(&out_faces), out_faces.length,
          start(&work_u32), work_u32.length, (float *)start(&work_f32), work_f32.length,
          (double *)start(&work_f64), work_f64.length / 2, start(&answer));
+    took = now() - began;
 }
 
 static const char *const answer_part[5] = {
@@ -201,18 +252,23 @@ static bool kept(const struct lent *lent, const uint32_t *list, size_t stored)
 }
 
 /* The first thing that differs, or null. */
-static const char *difference(const struct one *c)
+static const char *difference(const struct one *c, bool tells_folds)
 {
     const uint32_t *w = c->word;
     bool done = w[NUMBER] == 0, refused = w[NUMBER] >= 1 && w[NUMBER] <= 9;
     size_t point_cells = done ? 3 * (size_t)w[POINTS_OUT] : 0;
     size_t face_cells = done ? 3 * (size_t)w[FACES_OUT] : 0;
+    size_t told = tells_folds ? fold_cells(c) : 0;
     /* The stated part of the work memory is cleared unless refused. */
     size_t v = refused ? 0 : w[POINTS_LEN] / 3, f = refused ? 0 : w[FACES_LEN] / 3;
 
     for (int i = 0; i < 5; i++)
         if (start(&answer)[i] != w[NUMBER + i])
             return answer_part[i];
+    if (!holds(&folds, c->list[4], w[FOLD_LIST], told))
+        return "list of folds";
+    if (!untouched_from(&folds, told))
+        return "list of folds past the part used";
     if (!holds(&out_points, c->list[2], w[OUT_POINTS], point_cells))
         return "output points";
     if (!holds(&out_faces, c->list[3], w[OUT_FACES], face_cells))
@@ -298,13 +354,33 @@ static void keep_if_smallest(const struct one *c, const char *what, const char *
     memcpy(smallest.got, start(&answer), sizeof smallest.got);
 }
 
-static bool differs(thin_function *thin, const char *entry, const struct one *c)
+/* The entries, each with the least time that a call took. */
+static struct entry {
+    const char *name;
+    thin_function *thin;
+    bool tells_folds;
+    double least;
+} fast = { "hjoltravan_thin", hjoltravan_thin, false, 0 },
+  plain = { "hjoltravan_thin_plain", hjoltravan_thin_plain, false, 0 };
+#ifdef HJOLTRAVAN_FOLDS
+static struct entry telling = { "hjoltravan_thin_folds", thin_folds, true, 0 };
+#endif
+
+static bool differs(struct entry *entry, const struct one *c)
 {
-    call(thin, c);
-    const char *what = difference(c);
+    call(entry->thin, c);
+    if (entry->least == 0 || took < entry->least)
+        entry->least = took;
+    const char *what = difference(c, entry->tells_folds);
     if (what)
-        keep_if_smallest(c, what, entry);
+        keep_if_smallest(c, what, entry->name);
     return what;
+}
+
+static void print_time(const struct entry *entry)
+{
+    if (entry->least > 0)
+        printf("%s: %.1f ms\n", entry->name, entry->least);
 }
 
 static struct one c;
@@ -331,16 +407,20 @@ int main(int count, char **argument)
             stop("the file is cut short");
 
     unsigned long cases[MOST_FAMILIES] = { 0 }, wrong[MOST_FAMILIES] = { 0 };
-    unsigned long all = 0, all_wrong = 0, plain = 0;
+    unsigned long all = 0, all_wrong = 0, by_plain = 0, told = 0;
     for (size_t space = 0; read_case(&c, &space);) {
         uint32_t family = c.word[FAMILY];
         if (family >= head[1])
             stop("a case of no family");
-        bool wrong_here = differs(hjoltravan_thin, "hjoltravan_thin", &c);
+        bool wrong_here = differs(&fast, &c);
+#ifdef HJOLTRAVAN_FOLDS
+        wrong_here |= differs(&telling, &c);
+        told += fold_cells(&c) / 2;
+#endif
         bool refused = c.word[NUMBER] >= 1 && c.word[NUMBER] <= 9;
         if (refused || c.word[FACES_LEN] / 3 <= plain_most) {
-            wrong_here |= differs(hjoltravan_thin_plain, "hjoltravan_thin_plain", &c);
-            plain++;
+            wrong_here |= differs(&plain, &c);
+            by_plain++;
         }
         cases[family]++;
         wrong[family] += wrong_here;
@@ -351,7 +431,14 @@ int main(int count, char **argument)
         if (cases[i])
             printf("%-16s %8lu cases %8lu differ\n", name[i], cases[i], wrong[i]);
     printf("%-16s %8lu cases %8lu differ\n", "all", all, all_wrong);
-    printf("%lu of the cases were run by the plain walk too\n", plain);
+    printf("%lu of the cases were run by the plain walk too; %lu folds were told one by one\n", by_plain, told);
+    if (count > 2) {
+        print_time(&fast);
+#ifdef HJOLTRAVAN_FOLDS
+        print_time(&telling);
+#endif
+        print_time(&plain);
+    }
     if (smallest.what) {
         printf("The smallest that differs: family %s, ", name[smallest.one.word[FAMILY]]);
         print_case(&smallest.one, smallest.what, smallest.entry, smallest.got);

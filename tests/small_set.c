@@ -7,19 +7,45 @@ enum { MOST_POINTS = 16, MOST_FACES = 16 };
 
 static float out_points[3 * MOST_POINTS];
 static uint32_t out_faces[3 * MOST_FACES];
+static uint32_t u[16 * MOST_POINTS + 32 * MOST_FACES];
+static float p[4 * MOST_POINTS + 12 * MOST_FACES];
+static double q[16 * MOST_POINTS + 6 * MOST_FACES];
 static int failed;
 
-/* Thins v points and f faces, and says whether the answer is the expected one. */
+/* Thins v points and f faces both ways, and says whether the answer is the expected one and the two agree in all that they write. */
 static void expect(const char *what, const float *points, size_t v, const uint32_t *faces, size_t f, float ratio, bool preserve,
                    bool limited, float limit, uint32_t number, uint32_t place, uint32_t most_faces, uint32_t folds) {
-    static uint32_t u[16 * MOST_POINTS + 32 * MOST_FACES], answer[5];
-    static float p[4 * MOST_POINTS + 12 * MOST_FACES];
-    static double q[16 * MOST_POINTS + 6 * MOST_FACES];
+    static float plain_points[3 * MOST_POINTS];
+    static uint32_t plain_faces[3 * MOST_FACES], answer[5], plain_answer[5];
+    memcpy(plain_points, out_points, sizeof out_points);
+    memcpy(plain_faces, out_faces, sizeof out_faces);
     hjoltravan_thin(points, 3 * v, faces, 3 * f, ratio, preserve, limited, limit, out_points, 3 * v, out_faces, 3 * f, u,
                     HJOLTRAVAN_WORK_U32(v, f), p, HJOLTRAVAN_WORK_F32(v, f), q, HJOLTRAVAN_WORK_F64(v, f), answer);
     bool right = answer[0] == number && answer[1] == place && answer[3] <= most_faces && answer[4] == folds;
     if (!right) {
         printf("small set: %s: answer %u place %u points %u faces %u folds %u\n", what, answer[0], answer[1], answer[2], answer[3], answer[4]);
+        failed++;
+    }
+    hjoltravan_thin_plain(points, 3 * v, faces, 3 * f, ratio, preserve, limited, limit, plain_points, 3 * v, plain_faces, 3 * f, u,
+                          HJOLTRAVAN_WORK_U32(v, f), p, HJOLTRAVAN_WORK_F32(v, f), q, HJOLTRAVAN_WORK_F64(v, f), plain_answer);
+    if (memcmp(answer, plain_answer, sizeof answer) || memcmp(out_points, plain_points, sizeof out_points) ||
+        memcmp(out_faces, plain_faces, sizeof out_faces)) {
+        printf("small set: %s: the plain walk differs\n", what);
+        failed++;
+    }
+}
+
+enum { UNTOUCHED = 77, FOLD_ROOM = 8 };
+
+/* Thins v points and f faces with room for that many numbers of folds, and says whether the list is the expected one. */
+static void expect_folds(const char *what, const float *points, size_t v, const uint32_t *faces, size_t f, float ratio, bool preserve,
+                         size_t room, const uint32_t expected[FOLD_ROOM]) {
+    static uint32_t folds[FOLD_ROOM], answer[5];
+    for (size_t i = 0; i < FOLD_ROOM; i++) folds[i] = UNTOUCHED;
+    hjoltravan_thin_folds(points, 3 * v, faces, 3 * f, ratio, preserve, false, 0, out_points, 3 * v, out_faces, 3 * f, u,
+                          HJOLTRAVAN_WORK_U32(v, f), p, HJOLTRAVAN_WORK_F32(v, f), q, HJOLTRAVAN_WORK_F64(v, f), folds, room, answer);
+    if (memcmp(folds, expected, sizeof folds)) {
+        printf("small set: %s: answer %u folds %u, listed %u %u %u ..\n", what, answer[0], answer[4], folds[0], folds[1], folds[2]);
         failed++;
     }
 }
@@ -31,6 +57,16 @@ int main(void) {
     expect("preserve on", square, 5, fan, 4, 0.5f, true, false, 0, 10, 4, 0, 0);
     expect("limit 1.0", square, 5, fan, 4, 0.5f, false, true, 1.0f, 11, 0, 0, 0);
     expect("limit 2.0", square, 5, fan, 4, 0.5f, false, true, 2.0f, 0, 0, 2, 1);
+
+    /* the square's one fold: 4 is joined to 0 */
+    enum { NO = UNTOUCHED };
+    static const uint32_t whole[] = {0, 4, NO, NO, NO, NO, NO, NO}, half[] = {0, NO, NO, NO, NO, NO, NO, NO},
+                          none[] = {NO, NO, NO, NO, NO, NO, NO, NO};
+    expect_folds("folds of the square", square, 5, fan, 4, 0.5f, false, HJOLTRAVAN_FOLDS(5, 4), whole);
+    expect_folds("room for one number", square, 5, fan, 4, 0.5f, false, 1, half);
+    expect_folds("no room", square, 5, fan, 4, 0.5f, false, 0, none);
+    expect_folds("folds with preserve on", square, 5, fan, 4, 0.5f, true, FOLD_ROOM, none);
+    expect_folds("folds of a copy", square, 5, fan, 4, 0.0f, false, FOLD_ROOM, none);
 
     static const float corner[] = {0, 0, 0, 1, 0, 0, 0, 1, 0};
     static const uint32_t triangle[] = {0, 1, 2};

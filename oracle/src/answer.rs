@@ -12,10 +12,7 @@ pub fn answer(case: &Case) -> Answer {
 
 /// The Rust's answer on an admitted mesh, and its folds with their places.
 pub fn walked(case: &Case) -> (Answer, Vec<Fold>) {
-    let limit = case.limited.then_some(f32::from_bits(case.limit));
-    // The third parameter is stored by the Rust and never read.
-    let simplifier = QuadricErrorSimplifier::with_params(limit, case.preserve, 0.0);
-    let result = simplifier.simplify(&mesh(case), f32::from_bits(case.ratio));
+    let result = simplifier(case).simplify(&mesh(case), f32::from_bits(case.ratio));
     let folds = fold_report::take();
     let answer = match result {
         Ok(mesh) => Answer {
@@ -30,7 +27,14 @@ pub fn walked(case: &Case) -> (Answer, Vec<Fold>) {
     (answer, folds)
 }
 
-fn mesh(case: &Case) -> TriangleMesh {
+/// The Rust with the settings of a case.
+pub fn simplifier(case: &Case) -> QuadricErrorSimplifier {
+    let limit = case.limited.then_some(f32::from_bits(case.limit));
+    // The third parameter is stored by the Rust and never read.
+    QuadricErrorSimplifier::with_params(limit, case.preserve, 0.0)
+}
+
+pub fn mesh(case: &Case) -> TriangleMesh {
     let point = |p: &[u32]| Point3f::from([p[0], p[1], p[2]].map(f32::from_bits));
     let face = |f: &[u32]| [f[0] as usize, f[1] as usize, f[2] as usize];
     TriangleMesh::from_vertices_and_faces(

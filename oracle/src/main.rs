@@ -5,6 +5,14 @@
 //! writes COUNT cases with their answers to standard output; the same numbers
 //! give the same bytes. MOST_FACES bounds the size of the shapes. FAMILY keeps
 //! to one kind of mesh.
+//!
+//!     oracle single SEED COUNT
+//!
+//! writes COUNT cases of single operations.
+//!
+//!     oracle large SHAPE SIDE RATIO
+//!
+//! writes one mesh several times, and says how long the Rust takes for it.
 
 mod answer;
 mod bad_input;
@@ -13,10 +21,13 @@ mod dressing;
 mod edge_cases;
 mod families;
 mod fold_report;
+mod large;
 mod odd_places;
+mod patterns;
 mod random;
 mod rules;
 mod shapes;
+mod single_cases;
 mod steps;
 
 // The published file with quadric_error.patch applied by ./build.
@@ -34,22 +45,60 @@ pub trait MeshSimplifier {
 
 fn main() -> io::Result<()> {
     let words: Vec<String> = std::env::args().skip(1).collect();
-    let number = |i: usize| words.get(i).and_then(|w| w.parse::<u64>().ok());
-    let (Some(seed), Some(count), Some(most)) = (number(0), number(1), number(2)) else {
-        eprintln!("usage: oracle SEED COUNT MOST_FACES [FAMILY]");
-        std::process::exit(2);
-    };
-    let only = words.get(3).map(|name| families::number_of(name));
+    let words: Vec<&str> = words.iter().map(String::as_str).collect();
     let mut out = BufWriter::new(io::stdout().lock());
-    case::write_head(&mut out, &families::names())?;
+    match words[..] {
+        ["single", seed, count] => single(number(seed), number(count), &mut out)?,
+        ["large", shape, side, ratio] => {
+            let ratio = ratio.parse().unwrap_or_else(|_| usage());
+            large::write(shape, number(side) as usize, ratio, &mut out)?
+        }
+        [seed, count, most] => meshes(number(seed), number(count), number(most), None, &mut out)?,
+        [seed, count, most, name] => {
+            let only = Some(families::number_of(name));
+            meshes(number(seed), number(count), number(most), only, &mut out)?
+        }
+        _ => usage(),
+    }
+    out.flush()
+}
+
+fn number(word: &str) -> u64 {
+    word.parse().unwrap_or_else(|_| usage())
+}
+
+fn usage() -> ! {
+    eprintln!("usage: oracle SEED COUNT MOST_FACES [FAMILY]");
+    eprintln!("       oracle single SEED COUNT");
+    eprintln!("       oracle large SHAPE SIDE RATIO");
+    std::process::exit(2)
+}
+
+fn meshes(
+    seed: u64,
+    count: u64,
+    most: u64,
+    only: Option<usize>,
+    out: &mut impl Write,
+) -> io::Result<()> {
+    case::write_head(out, &families::names())?;
     let mut written = 0;
     let mut turn = 0;
     while written < count {
         for case in families::make(seed, turn, most as usize, only) {
-            case.write(&answer::answer(&case), &mut out)?;
+            case.write(&answer::answer(&case), out)?;
             written += 1;
         }
         turn += 1;
     }
-    out.flush()
+    Ok(())
+}
+
+fn single(seed: u64, count: u64, out: &mut impl Write) -> io::Result<()> {
+    let told = single_cases::write(seed, count, out)?;
+    eprintln!(
+        "{} places with an error that is a NaN; the Rust itself goes another way in {} of them",
+        told.nan_places, told.rust_differs
+    );
+    Ok(())
 }

@@ -188,6 +188,16 @@ pub fn torus(random: &mut Random, most: usize) -> Mesh {
     let across = random.between(3, (most / (2 * around)).clamp(3, longest_side(most)));
     let thin = random.choose(&[0.25, 0.4, 0.9]);
     let mixed = random.once_in(3);
+    torus_of(around, across, thin, || mixed && random.once_in(2))
+}
+
+/// A torus of so many squares, each cut along the one diagonal or the other.
+pub fn torus_of(
+    around: usize,
+    across: usize,
+    thin: f64,
+    mut other_diagonal: impl FnMut() -> bool,
+) -> Mesh {
     let mut mesh = Mesh::default();
     for i in 0..around {
         for j in 0..across {
@@ -200,7 +210,7 @@ pub fn torus(random: &mut Random, most: usize) -> Mesh {
     for i in 0..around {
         for j in 0..across {
             let corners = [at(i, j), at(i + 1, j), at(i + 1, j + 1), at(i, j + 1)];
-            mesh.quad(corners, mixed && random.once_in(2));
+            mesh.quad(corners, other_diagonal());
         }
     }
     mesh
@@ -211,6 +221,10 @@ pub fn grid(random: &mut Random, most: usize) -> Mesh {
     let wide = random.between(1, (most / 2).clamp(1, longest_side(most)));
     let high = random.between(1, (most / (2 * wide)).clamp(1, longest_side(most)));
     let mixed = random.once_in(2);
+    grid_of(wide, high, || mixed && random.once_in(2))
+}
+
+pub fn grid_of(wide: usize, high: usize, mut other_diagonal: impl FnMut() -> bool) -> Mesh {
     let mut mesh = Mesh::default();
     for y in 0..=high {
         for x in 0..=wide {
@@ -221,7 +235,7 @@ pub fn grid(random: &mut Random, most: usize) -> Mesh {
     for y in 0..high {
         for x in 0..wide {
             let corners = [at(x, y), at(x + 1, y), at(x + 1, y + 1), at(x, y + 1)];
-            mesh.quad(corners, mixed && random.once_in(2));
+            mesh.quad(corners, other_diagonal());
         }
     }
     mesh

@@ -1,4 +1,4 @@
--- What a call through C leaves: the entry's outcome, with the answer as five numbers.
+-- What a call through C leaves: the entry's outcome, with the answer as five numbers, and the folds where they are asked for.
 use Prim.Native.Nat.{ℕ}
 use mathlib.Core.Path.{_≡_}
 use mathlib.Core.List.{List, [], _∷_}
@@ -8,8 +8,8 @@ use Rattle.placement.specs.declared.Limit.{Limit}
 use Rattle.placement.specs.declared.Limit.the-variants.{Unlimited, AtMost}
 use Rattle.checks.specs.Verdicts.{Input}
 use Rattle.thinning.specs.declared.Answer.{Answer}
-use Rattle.thinning.specs.Outcomes.{outcome}
-use Rattle.thinning.specs.Entry.{Answered}
+use Rattle.thinning.specs.Outcomes.{outcome, foldsOf}
+use Rattle.thinning.specs.Entry.{Answered, listed}
 
 -- a limit only where there is one
 abbrev pub limitOf : Bool → Float → Limit
@@ -26,3 +26,7 @@ pub record Called (i : Input) (preserve : Bool)
     (points' : List Float) (faces' : List ℕ) (u' : List ℕ) (p' q' : List Float) (five : List ℕ) : Type 0 where
   pub told : five ≡ fiveOf (outcome i preserve .answer)
   pub left : Answered i preserve points faces u p q points' faces' u' p' q' (outcome i preserve .answer)
+
+-- the folds of the input: keep and remove of each, as far as there is room, and the rest as it came
+abbrev pub FoldsTold : (i : Input) (preserve : Bool) (folds folds' : List ℕ) → Type 0
+FoldsTold i preserve folds folds' = folds' ≡ listed (foldsOf i preserve) folds

@@ -4,7 +4,7 @@ ghost use Rattle.bits.specs.Root.{rootBits};
 ghost use Rattle.bits.specs.Narrow.{narrowBits};
 ghost use Rattle.bits.specs.Order.{orderKey};
 ghost use Rattle.thinning.specs.Entry.{inputOf};
-ghost use Rattle.hjoltravan.specs.Calls.{limitOf, fiveOf, Called};
+ghost use Rattle.hjoltravan.specs.Calls.{limitOf, fiveOf, Called, FoldsTold};
 use placement::Limit;
 use thinning::Answer;
 
@@ -24,6 +24,40 @@ fn tell(answer: &mut [u32; 5], r: Answer)
     ensures { λ _. ⌜ now (answer .exit) ≡ fiveOf r ⌝ }
 {
     *answer = [r.number, r.place, r.points, r.faces, r.folds];
+}
+
+// Thins a mesh by the heap walk.
+#[no_mangle]
+pub extern "C" fn hjoltravan_thin(
+    points: &[f32],
+    faces: &[u32],
+    ratio: f32,
+    preserve: bool,
+    limited: bool,
+    limit: f32,
+    out_points: &mut [f32],
+    out_faces: &mut [u32],
+    work_u32: &mut [u32],
+    work_f32: &mut [f32],
+    work_f64: &mut [f64],
+    answer: &mut [u32; 5],
+)
+    ensures { λ _. ⌜ Called (inputOf (now (points .entry)) (now (faces .entry)) ratio (limitOf limited limit) (now («out_points» .entry)) (now («out_faces» .entry)) (now («work_u32» .entry)) (now («work_f32» .entry)) (now («work_f64» .entry))) preserve (now («out_points» .entry)) (now («out_faces» .entry)) (now («work_u32» .entry)) (now («work_f32» .entry)) (now («work_f64» .entry)) (now («out_points» .exit)) (now («out_faces» .exit)) (now («work_u32» .exit)) (now («work_f32» .exit)) (now («work_f64» .exit)) (now (answer .exit)) ⌝ }
+{
+    let most = limit_of(limited, limit);
+    let r = thinning::thin(
+        points,
+        faces,
+        ratio,
+        preserve,
+        most,
+        out_points,
+        out_faces,
+        work_u32,
+        work_f32,
+        work_f64,
+    );
+    tell(answer, r);
 }
 
 // Thins a mesh by the plain walk.
@@ -60,9 +94,9 @@ pub extern "C" fn hjoltravan_thin_plain(
     tell(answer, r);
 }
 
-// Thins a mesh. The plain walk does it today, with the statement that stays.
+// Thins a mesh by the heap walk, and lists its folds.
 #[no_mangle]
-pub extern "C" fn hjoltravan_thin(
+pub extern "C" fn hjoltravan_thin_folds(
     points: &[f32],
     faces: &[u32],
     ratio: f32,
@@ -74,24 +108,27 @@ pub extern "C" fn hjoltravan_thin(
     work_u32: &mut [u32],
     work_f32: &mut [f32],
     work_f64: &mut [f64],
+    folds: &mut [u32],
     answer: &mut [u32; 5],
 )
-    ensures { λ _. ⌜ Called (inputOf (now (points .entry)) (now (faces .entry)) ratio (limitOf limited limit) (now («out_points» .entry)) (now («out_faces» .entry)) (now («work_u32» .entry)) (now («work_f32» .entry)) (now («work_f64» .entry))) preserve (now («out_points» .entry)) (now («out_faces» .entry)) (now («work_u32» .entry)) (now («work_f32» .entry)) (now («work_f64» .entry)) (now («out_points» .exit)) (now («out_faces» .exit)) (now («work_u32» .exit)) (now («work_f32» .exit)) (now («work_f64» .exit)) (now (answer .exit)) ⌝ }
+    ensures answer { λ _. ⌜ Called (inputOf (now (points .entry)) (now (faces .entry)) ratio (limitOf limited limit) (now («out_points» .entry)) (now («out_faces» .entry)) (now («work_u32» .entry)) (now («work_f32» .entry)) (now («work_f64» .entry))) preserve (now («out_points» .entry)) (now («out_faces» .entry)) (now («work_u32» .entry)) (now («work_f32» .entry)) (now («work_f64» .entry)) (now («out_points» .exit)) (now («out_faces» .exit)) (now («work_u32» .exit)) (now («work_f32» .exit)) (now («work_f64» .exit)) (now (answer .exit)) ⌝ }
+    ensures folds { λ _. ⌜ FoldsTold (inputOf (now (points .entry)) (now (faces .entry)) ratio (limitOf limited limit) (now («out_points» .entry)) (now («out_faces» .entry)) (now («work_u32» .entry)) (now («work_f32» .entry)) (now («work_f64» .entry))) preserve (now (folds .entry)) (now (folds .exit)) ⌝ }
 {
-    hjoltravan_thin_plain(
+    let most = limit_of(limited, limit);
+    let r = thinning::thin_folds(
         points,
         faces,
         ratio,
         preserve,
-        limited,
-        limit,
+        most,
         out_points,
         out_faces,
         work_u32,
         work_f32,
         work_f64,
-        answer,
+        folds,
     );
+    tell(answer, r);
 }
 
 // The square root of an f32, on bit patterns.

@@ -24,7 +24,7 @@ use Rattle.surface.specs.Renumber.{used, placeIn, renumbered, numbersOf}
 use Rattle.vertices.specs.Rules.{fairPoints, mergedVertex, rulesOf}
 use Rattle.vertices.specs.Start.{gathered, startMesh}
 use Rattle.checks.specs.Verdicts.{Input, firstOf, faceVerdict, contentsVerdict, verdictOf}
-use Rattle.thinning.specs.Outcomes.{startOf, targetOf, lastMesh, foldsMade, partsIn, refusal, Outcome, outcomeBy, outcome}
+use Rattle.thinning.specs.Outcomes.{startOf, targetOf, lastMesh, foldsWalked, partsIn, refusal, Outcome, outcomeBy, outcome}
 use Rattle.scanfile.specs.Words.{fourBytes}
 use Rattle.scanfile.specs.Records.{recordFault, optionsFault}
 use Rattle.scanfile.specs.Scans.{scanOf}
@@ -50,5 +50,5 @@ squareFile flags =
 
 -- its listing, and its refusal with preserve on
 pub examples-hold : map replyOf (squareFile 0 ∷ squareFile 1 ∷ []) ≡ squareListing ∷ refusalListing ∷ []
-unfolding outcome outcomeBy partsIn foldsMade lastMesh targetOf startOf startMesh gathered rulesOf mergedVertex fairPoints numbersOf renumbered placeIn used foldList walk after answer chosen tried opened started least order budget foldOf pairsBelow foldedMesh allowed fairFace foldedFaces borderCount borderPoint without those every some below lists.sum placeOf fallback cheaper tested stands solved eligible pairCost pairPlace pairLength pairQuadric inverse errorAt planeOf unitNormal allFinite normal norm root rootBits finiteRoot bitsRoot.largest halfway fourfold steps floatKey orderKey narrowed cut target flatMap verdictOf contentsVerdict faceVerdict firstOf span climb size odd units round neg ieee.sum add sub mul div lt eq le ofInt toUnsigned isNan ofFields ofBits toBits replyOf replyBy asFours scanOf recordFault optionsFault fourBytes numbersFrom meshText headText refusalText linesTo eightDigits decimal places digits
+unfolding outcome outcomeBy partsIn foldsWalked lastMesh targetOf startOf startMesh gathered rulesOf mergedVertex fairPoints numbersOf renumbered placeIn used foldList walk after answer chosen tried opened started least order budget foldOf pairsBelow foldedMesh allowed fairFace foldedFaces borderCount borderPoint without those every some below lists.sum placeOf fallback cheaper tested stands solved eligible pairCost pairPlace pairLength pairQuadric inverse errorAt planeOf unitNormal allFinite normal norm root rootBits finiteRoot bitsRoot.largest halfway fourfold steps floatKey orderKey narrowed cut target flatMap verdictOf contentsVerdict faceVerdict firstOf span climb size odd units round neg ieee.sum add sub mul div lt eq le ofInt toUnsigned isNan ofFields ofBits toBits replyOf replyBy asFours scanOf recordFault optionsFault fourBytes numbersFrom meshText headText refusalText linesTo eightDigits decimal places digits
 examples-hold = refl

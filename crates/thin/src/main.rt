@@ -125,7 +125,7 @@ fn write_thinned(out: &mut [u8], head: Head, points: &[f32], faces: &[u32]) -> u
     let mut work_f32 = work_f32_cells();
     let mut work_f64 = work_f64_cells();
     let limit = head.limit;
-    let answer = thinning::thin_plain(
+    let answer = thinning::thin(
         points,
         faces,
         head.ratio,

@@ -1,29 +1,30 @@
 -- An admitted call, stage by stage: what each stage asks, and at the end what document 01 says of the input.
 -- Assumes nothing.
-use Prim.Native.Nat.{ℕ, _*_, _≤_}
+use Prim.Native.Nat.{ℕ, _+_, _*_, _≤_}
 use native.Mathlib.Omega.{arith}
-use mathlib.Core.Path.{_≡_, refl, _∙_}
+use mathlib.Core.Path.{_≡_, refl, ap, _∙_}
 use mathlib.Core.List.{List}
 use mathlib.Core.Bool.{Bool, true}
 use lib.Ieee.{Float}
 use lib.ListN.{length}
+use Rattle.surface.specs.declared.Pair.{Pair}
 use Rattle.surface.specs.Faces.{facesOf}
 use Rattle.mesh.specs.Memory.{liveFaces}
 use Rattle.mesh.specs.Chains.{Tidy}
 use Rattle.mesh.proofs.Frames.{but-widen}
 use Rattle.walks.specs.declared.Walked.{Walked}
 use Rattle.walks.specs.Steps.{Within}
-use Rattle.walks.specs.Whole.{WalkDone}
+use Rattle.walks.specs.Whole.{foldsIn, WalkDone}
+use Rattle.walks.proofs.Theorems.{plain-walk-fewer}
 use Rattle.checks.specs.declared.Verdict.the-variants.{Admitted}
 use Rattle.checks.specs.Verdicts.{Input, pointsIn, facesIn, verdictOf}
-use Rattle.checks.proofs.VerdictLaws.{admitted}
 use Rattle.thinning.specs.declared.Answer.{Answer}
-use Rattle.thinning.specs.Outcomes.{targetOf, Outcome, outcome}
-use Rattle.thinning.specs.Entry.{Leaves}
+use Rattle.thinning.specs.Outcomes.{targetOf, Outcome, outcome, foldsOf}
+use Rattle.thinning.specs.Entry.{Leaves, listed}
 use Rattle.thinning.specs.Stages.{Working, LaidOut, outcomeIn, Finished, Zeroed}
 use Rattle.thinning.proofs.FrameLaws.{within-then, working-within, zeroed-within}
 use Rattle.thinning.proofs.LaidLaws.{borders-few}
-use Rattle.thinning.proofs.WalkedLaws.{folds-few, folds-made, outcome-is, outcome-worked}
+use Rattle.thinning.proofs.WalkedLaws.{folds-are, outcome-is, outcome-worked}
 
 -- writing the outputs changes no work memory but marks
 finished-within : {v f : ℕ} {o : Outcome} {u u' : List ℕ} {points points' : List Float} {faces faces' : List ℕ} {r : Answer} (p q : List Float) →
@@ -57,7 +58,7 @@ module _ (i : Input) (preserve : Bool) (verdict : verdictOf i ≡ Admitted) {bor
     (laid : LaidOut (pointsIn i) (facesIn i) (i .points) (i .faces) preserve u pu qu w p q borders) where
   pub walk-asked :
       Tidy (pointsIn i) (facesIn i) w
-      × ((length (liveFaces (facesIn i) w) ≡ facesIn i) × ((3 * pointsIn i ≤ length p) × (10 * pointsIn i ≤ length q)))
+      × ((length (liveFaces (facesIn i) w) ≡ facesIn i) × ((3 * pointsIn i + 9 * facesIn i ≤ length p) × (10 * pointsIn i + 3 * facesIn i ≤ length q)))
   walk-asked =
       let still = working-within room (laid .within) in
       (laid .tidy, (laid .all-live, (omega arith, omega arith)))
@@ -74,8 +75,13 @@ module _ (i : Input) (preserve : Bool) (verdict : verdictOf i ≡ Admitted) {bor
     pub counts-few : (borders ≤ pointsIn i) × (r .folds ≤ facesIn i)
     counts-few = (
       rw (laid .counted) (borders-few (pointsIn i) (facesOf (facesIn i) (i .faces)) preserve),
-      rw (folds-made i preserve aim laid done) (folds-few i preserve (admitted i verdict)),
+      omega (arith, plain-walk-fewer (laid .tidy) done, laid .all-live),
     )
+
+    -- and the folds are listed
+    pub folds-listed : (folds : List ℕ) {folds' : List ℕ} → folds' ≡ listed (foldsIn (pointsIn i) (facesIn i) w' (r .folds)) folds →
+        folds' ≡ listed (foldsOf i preserve) folds
+    folds-listed folds here = here ∙ ap (λ (made : List Pair). listed made folds) (folds-are i preserve aim laid done verdict)
 
     -- it is written, or not
     module _ {w'' : List ℕ} {points points' : List Float} {faces faces' : List ℕ} {a : Answer}

@@ -1,4 +1,4 @@
--- The public entry's statement is tight: any two outcomes that it allows coincide, in the answer and in every lent cell.
+-- The public entries' statements are tight: any two outcomes that one allows coincide, in the answer and in every lent cell.
 -- Assumes nothing.
 use Prim.Native.Nat.{ℕ}
 use mathlib.Core.Path.{_≡_, sym, _∙_}
@@ -7,7 +7,8 @@ use mathlib.Core.Bool.{Bool}
 use lib.Ieee.{Float}
 use Rattle.checks.specs.Verdicts.{Input}
 use Rattle.thinning.specs.declared.Answer.{Answer}
-use Rattle.thinning.specs.Entry.{Answered}
+use Rattle.thinning.specs.Outcomes.{foldsOf}
+use Rattle.thinning.specs.Entry.{Answered, listed}
 
 -- two calls on the same input and buffers, which they leave as r with points₁ .. q₁ and as s with points₂ .. q₂
 pub record Same (r s : Answer) (points₁ points₂ : List Float) (faces₁ faces₂ u₁ u₂ : List ℕ) (p₁ p₂ q₁ q₂ : List Float) : Type 0 where
@@ -18,6 +19,7 @@ pub record Same (r s : Answer) (points₁ points₂ : List Float) (faces₁ face
   pub f32s : p₁ ≡ p₂
   pub f64s : q₁ ≡ q₂
 
+-- thin and thin_plain
 pub determined : (i : Input) (preserve : Bool) {points points₁ points₂ : List Float} {faces faces₁ faces₂ u u₁ u₂ : List ℕ} {p p₁ p₂ q q₁ q₂ : List Float} {r s : Answer} →
     Answered i preserve points faces u p q points₁ faces₁ u₁ p₁ q₁ r → Answered i preserve points faces u p q points₂ faces₂ u₂ p₂ q₂ s →
     Same r s points₁ points₂ faces₁ faces₂ u₁ u₂ p₁ p₂ q₁ q₂
@@ -29,3 +31,11 @@ determined i preserve a b = record {
   f32s = a .f32s-left ∙ sym (b .f32s-left);
   f64s = a .f64s-left ∙ sym (b .f64s-left);
 }
+
+-- thin_folds
+pub determined-folds : (i : Input) (preserve : Bool) (folds : List ℕ)
+    {points points₁ points₂ : List Float} {faces faces₁ faces₂ u u₁ u₂ : List ℕ} {p p₁ p₂ q q₁ q₂ : List Float} {folds₁ folds₂ : List ℕ} {r s : Answer} →
+    Answered i preserve points faces u p q points₁ faces₁ u₁ p₁ q₁ r → folds₁ ≡ listed (foldsOf i preserve) folds →
+    Answered i preserve points faces u p q points₂ faces₂ u₂ p₂ q₂ s → folds₂ ≡ listed (foldsOf i preserve) folds →
+    Same r s points₁ points₂ faces₁ faces₂ u₁ u₂ p₁ p₂ q₁ q₂ × (folds₁ ≡ folds₂)
+determined-folds i preserve folds a a-folds b b-folds = (determined i preserve a b, a-folds ∙ sym b-folds)

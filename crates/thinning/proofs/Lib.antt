@@ -4,6 +4,7 @@ pub mod MemoryLaws
 pub mod SizeLaws
 pub mod LaidLaws
 pub mod WalkedLaws
+pub mod FoldListLaws
 pub mod AdmittedLaws
 pub mod VerdictLaws
 pub mod Determined

@@ -1,7 +1,6 @@
 -- The walk of an admitted mesh, from what stands in memory to what document 01 says of the input.
 -- Assumes nothing.
-use Prim.Native.Nat.{ℕ, _≤_}
-use native.Mathlib.Omega.{arith}
+use Prim.Native.Nat.{ℕ}
 use mathlib.Core.Path.{_≡_, sym, ap, ap₂, _∙_}
 use mathlib.Core.List.{List, []}
 use mathlib.Core.Bool.{Bool, true, _&&_, cond}
@@ -10,42 +9,20 @@ use lib.Ieee.{Float}
 use lib.ListN.{length}
 use Rattle.placement.specs.declared.pair.Vertex.{Vertex}
 use Rattle.surface.specs.declared.Face.{Face}
-use Rattle.surface.specs.Lists.{every}
-use Rattle.surface.specs.Faces.{proper}
 use Rattle.surface.specs.Folding.{Mesh}
-use Rattle.surface.specs.Walk.{started, walk, budget}
 use Rattle.surface.specs.Renumber.{used, renumbered, numbersOf}
-use Rattle.surface.specs.Sound.{Sound}
 use Rattle.surface.proofs.TestLaws.{by-test}
-use Rattle.surface.proofs.SoundLaws.{started-sound}
-use Rattle.surface.proofs.WalkLaws.{walk-fewer}
 use Rattle.mesh.specs.Memory.{liveFaces}
 use Rattle.mesh.specs.Chains.{Tidy}
 use Rattle.vertices.specs.Memory.{meshOf, partsOf}
-use Rattle.vertices.specs.Start.{startMesh}
-use Rattle.vertices.proofs.BelowLaws.{length-each}
 use Rattle.walks.specs.declared.Walked.{Walked}
-use Rattle.walks.specs.Whole.{WalkDone}
+use Rattle.walks.specs.Whole.{foldsIn, WalkDone}
 use Rattle.checks.specs.declared.Verdict.{Verdict}
 use Rattle.checks.specs.declared.Verdict.the-variants.{Admitted}
 use Rattle.checks.specs.Verdicts.{Input, pointsIn, facesIn, verdictOf}
-use Rattle.checks.specs.Facts.{Admissible}
-use Rattle.thinning.specs.Outcomes.{rulesIn, startOf, targetOf, lastMesh, foldsMade, partsIn, Outcome, outcomeBy, outcome}
+use Rattle.thinning.specs.Outcomes.{rulesIn, startOf, targetOf, lastMesh, foldsWalked, foldsMade, foldsBy, foldsOf, partsIn, Outcome, outcomeBy, outcome}
 use Rattle.thinning.specs.Stages.{LaidOut, stuckOutcome, outcomeIn}
 use Rattle.thinning.proofs.MemoryLaws.{parts-written}
-
--- ---- folds
-
--- each fold has killed a face, so there are at most as many as faces
-pub folds-few : (i : Input) (preserve : Bool) → Admissible i → foldsMade i preserve ≤ facesIn i
-unfolding foldsMade startOf started startMesh
-folds-few i preserve fine =
-    let m : Mesh Vertex = startMesh (pointsIn i) (facesIn i) (i .points) (i .faces) preserve in
-    let as-many : length (m .points) ≡ pointsIn i = length-each _ (pointsIn i) in
-    let sound : Sound (startOf i preserve) =
-    started-sound (rulesIn i) m (ap (λ (v : ℕ). every (proper v) (m .faces)) as-many ∙ fine .faces-proper) in
-    let faces : length (m .faces) ≡ facesIn i = length-each _ (facesIn i) in
-    omega (arith, walk-fewer (rulesIn i) (targetOf i) (budget (facesIn i) (startOf i preserve)) (startOf i preserve) sound)
 
 -- ---- the outcome hangs on the target, the border points, the folds, the faces left and the parts of their points
 
@@ -78,11 +55,14 @@ module _ (i : Input) (preserve : Bool) {target borders : ℕ} {u w w' : List ℕ
   unfolding lastMesh startOf
   last-mesh = done .same-mesh ∙ rw (laid .same-mesh, aim)
 
-  pub folds-made : r .folds ≡ foldsMade i preserve
-  unfolding foldsMade startOf
+  folds-made : r .folds ≡ foldsMade i preserve
+  unfolding foldsWalked startOf
   folds-made = done .same-folds ∙ rw (laid .same-mesh, aim)
 
-  -- ---- the outcome
+  -- the folds written down are the input's
+  pub folds-are : verdictOf i ≡ Admitted → foldsIn (pointsIn i) (facesIn i) w' (r .folds) ≡ foldsOf i preserve
+  unfolding foldsOf foldsBy foldsWalked startOf
+  folds-are verdict = done .same-list ∙ rw (laid .same-mesh, aim, verdict)
 
   -- the outcome of the mesh in memory is the input's
   pub outcome-is : Tidy (pointsIn i) (facesIn i) w' → verdictOf i ≡ Admitted →

@@ -3,14 +3,15 @@ use Prim.Native.Nat.{ℕ, _+_, _*_}
 use mathlib.Core.Path.{_≡_}
 use mathlib.Core.List.{List, _++_}
 use mathlib.Core.Bool.{Bool, cond}
-use lib.ListN.{length, drop, replicate}
+use lib.ListN.{length, take, drop, replicate}
 use lib.Ieee.{Float, binary32, ofBits}
 use Rattle.geometry.specs.Constants.{nought}
 use Rattle.placement.specs.declared.Limit.{Limit}
+use Rattle.surface.specs.declared.Pair.{Pair}
 use Rattle.renumbering.specs.Written.{over}
 use Rattle.checks.specs.Verdicts.{Input, pointsIn, facesIn}
 use Rattle.thinning.specs.declared.Answer.{Answer}
-use Rattle.thinning.specs.Outcomes.{Outcome, outcome}
+use Rattle.thinning.specs.Outcomes.{Outcome, outcome, pairNumbers}
 
 -- no coordinate is larger: 1,048,576
 abbrev pub largest : Float
@@ -52,3 +53,7 @@ abbrev pub Answered :
     (points : List Float) (faces : List ℕ) (u : List ℕ) (p q : List Float)
     (points' : List Float) (faces' : List ℕ) (u' : List ℕ) (p' q' : List Float) (r : Answer) → Type 0
 Answered i preserve = Leaves (pointsIn i) (facesIn i) (outcome i preserve)
+
+-- folds in a lent list: keep and remove of each, as far as there is room, and the rest as it came
+abbrev pub listed : List Pair → List ℕ → List ℕ
+listed made folds = over (take (length folds) (pairNumbers made)) folds

@@ -18,6 +18,7 @@ use Rattle.placement.specs.Errors.{errorAt}
 use Rattle.placement.specs.Inverses.{inverse}
 use Rattle.placement.specs.Pairs.{pairQuadric, pairLength, pairPlace, pairCost, eligible}
 use Rattle.placement.specs.Places.{solved, stands, tested, cheaper, fallback, placeOf}
+use Rattle.surface.specs.declared.Pair.{Pair}
 use Rattle.surface.specs.Lists as lists
 use Rattle.surface.specs.Lists.{those, every, some, without, below}
 use Rattle.surface.specs.Faces.{borderPoint, borderCount}
@@ -29,7 +30,7 @@ use Rattle.vertices.specs.Start.{gathered, startMesh}
 use Rattle.checks.specs.Verdicts.{Input, firstOf, faceVerdict, contentsVerdict, verdictOf}
 use Rattle.thinning.specs.declared.Answer.{Answer}
 use Rattle.thinning.specs.Entry.{largest}
-use Rattle.thinning.specs.Outcomes.{startOf, targetOf, lastMesh, foldsMade, partsIn, refusal, Outcome, outcomeBy, outcome}
+use Rattle.thinning.specs.Outcomes.{startOf, targetOf, lastMesh, foldsWalked, partsIn, refusal, Outcome, outcomeBy, outcome, foldsBy, foldsOf, pairNumbers}
 
 -- a mesh, its points by their bits, with a ratio by its bits and a limit, and room for ten points and ten faces
 abbrev meshWith : List ℕ → List ℕ → ℕ → Limit → Input
@@ -58,14 +59,16 @@ triangle = meshWith (0 ∷ 0 ∷ 0 ∷ 0x3f80_0000 ∷ 0 ∷ 0 ∷ 0 ∷ 0x3f80_
 abbrev done : ℕ → ℕ → ℕ → Answer
 done points faces folds = record { number = 0; place = 0; points = points; faces = faces; folds = folds }
 
--- What comes out: the answer, the parts of the points written, by their bits, and the numbers of the faces written.
+-- What comes out: the answer, the parts of the points written, by their bits, the numbers of the faces written, and the folds made, keep and remove of
+-- each.
 pub record Shown : Type 0 where
   pub answer : Answer
   pub points : List ℕ
   pub faces : List ℕ
+  pub folds : List ℕ
 
-abbrev pub shown : Outcome → Shown
-shown o = record { answer = o .answer; points = map (toBits binary32) (o .points); faces = o .faces }
+abbrev pub shown : Outcome → List Pair → Shown
+shown o folds = record { answer = o .answer; points = map (toBits binary32) (o .points); faces = o .faces; folds = pairNumbers folds }
 
 -- an example: what is handed over, preserve on or off, and what document 01 says comes out
 pub record Example : Type 0 where
@@ -83,14 +86,15 @@ examples =
         answer = done 4 2 1;
         points = 0x4000_0000 ∷ 0 ∷ 0 ∷ 0x4000_0000 ∷ 0x4000_0000 ∷ 0 ∷ 0 ∷ 0 ∷ 0 ∷ 0 ∷ 0x4000_0000 ∷ 0 ∷ [];
         faces = 0 ∷ 1 ∷ 2 ∷ 1 ∷ 3 ∷ 2 ∷ [];
+        folds = 0 ∷ 4 ∷ [];
       };
     }
     -- the same with preserve on: four border points are held
-    ∷ record { input = square 0x3f00_0000 Unlimited; preserve = true; out = record { answer = refusal 10 4; points = []; faces = [] } }
+    ∷ record { input = square 0x3f00_0000 Unlimited; preserve = true; out = record { answer = refusal 10 4; points = []; faces = []; folds = [] } }
     -- the same with preserve off and limit 1.0
-    ∷ record { input = square 0x3f00_0000 (AtMost (ofBits binary32 0x3f80_0000)); preserve = false; out = record { answer = refusal 11 0; points = []; faces = [] } }
+    ∷ record { input = square 0x3f00_0000 (AtMost (ofBits binary32 0x3f80_0000)); preserve = false; out = record { answer = refusal 11 0; points = []; faces = []; folds = [] } }
     -- one triangle at ratio 1: an empty mesh
-    ∷ record { input = triangle 0x3f80_0000 Unlimited; preserve = false; out = record { answer = done 0 0 1; points = []; faces = [] } }
+    ∷ record { input = triangle 0x3f80_0000 Unlimited; preserve = false; out = record { answer = done 0 0 1; points = []; faces = []; folds = 0 ∷ 1 ∷ [] } }
     -- the square at ratio 2^-25: nothing folds, and points are numbered by first use
     ∷ record {
       input = square 0x3300_0000 Unlimited;
@@ -99,11 +103,12 @@ examples =
         answer = done 5 4 0;
         points = 0 ∷ 0 ∷ 0 ∷ 0x4000_0000 ∷ 0 ∷ 0 ∷ 0x3f80_0000 ∷ 0x3f80_0000 ∷ 0 ∷ 0x4000_0000 ∷ 0x4000_0000 ∷ 0 ∷ 0 ∷ 0x4000_0000 ∷ 0 ∷ [];
         faces = 0 ∷ 1 ∷ 2 ∷ 1 ∷ 3 ∷ 2 ∷ 3 ∷ 4 ∷ 2 ∷ 4 ∷ 0 ∷ 2 ∷ [];
+        folds = [];
       };
     }
     ∷ []
 
 -- document 01's examples come out
-pub examples-hold : map (λ e. shown (outcome (e .input) (e .preserve))) examples ≡ map (λ e. e .out) examples
-unfolding outcome outcomeBy partsIn foldsMade lastMesh targetOf startOf startMesh gathered rulesOf mergedVertex fairPoints numbersOf renumbered placeIn used foldList walk after answer chosen tried opened started least order budget foldOf pairsBelow foldedMesh allowed fairFace foldedFaces borderCount borderPoint without those every some below lists.sum placeOf fallback cheaper tested stands solved eligible pairCost pairPlace pairLength pairQuadric inverse errorAt planeOf unitNormal allFinite normal norm root rootBits finiteRoot bitsRoot.largest halfway fourfold steps floatKey orderKey narrowed cut target flatMap verdictOf contentsVerdict faceVerdict firstOf span climb size odd units round neg ieee.sum add sub mul div lt eq le ofInt toUnsigned isNan ofFields ofBits toBits
+pub examples-hold : map (λ e. shown (outcome (e .input) (e .preserve)) (foldsOf (e .input) (e .preserve))) examples ≡ map (λ e. e .out) examples
+unfolding outcome outcomeBy pairNumbers foldsOf foldsBy partsIn foldsWalked lastMesh targetOf startOf startMesh gathered rulesOf mergedVertex fairPoints numbersOf renumbered placeIn used foldList walk after answer chosen tried opened started least order budget foldOf pairsBelow foldedMesh allowed fairFace foldedFaces borderCount borderPoint without those every some below lists.sum placeOf fallback cheaper tested stands solved eligible pairCost pairPlace pairLength pairQuadric inverse errorAt planeOf unitNormal allFinite normal norm root rootBits finiteRoot bitsRoot.largest halfway fourfold steps floatKey orderKey narrowed cut target flatMap verdictOf contentsVerdict faceVerdict firstOf span climb size odd units round neg ieee.sum add sub mul div lt eq le ofInt toUnsigned isNan ofFields ofBits toBits
 examples-hold = refl

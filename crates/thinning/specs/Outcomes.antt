@@ -7,6 +7,7 @@ use lib.ListN.{length, getD}
 use lib.Ieee.{Float}
 use Rattle.bits.specs.Cut.{target}
 use Rattle.placement.specs.declared.pair.Vertex.{Vertex}
+use Rattle.surface.specs.declared.Pair.{Pair}
 use Rattle.surface.specs.Faces.{facesOf, borderCount}
 use Rattle.surface.specs.Rules.{Rules}
 use Rattle.surface.specs.Folding.{Mesh}
@@ -31,12 +32,15 @@ startOf i preserve = started (rulesIn i) (startMesh (pointsIn i) (facesIn i) (i 
 unfoldable pub targetOf : Input → ℕ
 targetOf i = target (i .ratio) (facesIn i)
 
--- the mesh at the end and the number of folds, on a budget that is always enough
+-- the mesh at the end and the folds in order, on a budget that is always enough
 unfoldable pub lastMesh : Input → Bool → Mesh Vertex
 lastMesh i preserve = (walk (rulesIn i) (targetOf i) (budget (facesIn i) (startOf i preserve)) (startOf i preserve)) .mesh
 
-unfoldable pub foldsMade : Input → Bool → ℕ
-foldsMade i preserve = length (foldList (rulesIn i) (targetOf i) (budget (facesIn i) (startOf i preserve)) (startOf i preserve))
+unfoldable pub foldsWalked : Input → Bool → List Pair
+foldsWalked i preserve = foldList (rulesIn i) (targetOf i) (budget (facesIn i) (startOf i preserve)) (startOf i preserve)
+
+abbrev pub foldsMade : Input → Bool → ℕ
+foldsMade i preserve = length (foldsWalked i preserve)
 
 -- no fold was made, and there are more faces than the target
 abbrev pub stuck : Input → Bool → Bool
@@ -100,3 +104,19 @@ outcomeBy Admitted i preserve =
 
 unfoldable pub outcome : Input → Bool → Outcome
 outcome i preserve = outcomeBy (verdictOf i) i preserve
+
+-- ---- the folds made
+
+-- the folds of an input, in order, by what the checks say of it: none where it isn't walked
+unfoldable pub foldsBy : Verdict → Input → Bool → List Pair
+foldsBy (Refused number place) i preserve = []
+foldsBy Copied i preserve = []
+foldsBy Admitted i preserve = foldsWalked i preserve
+
+unfoldable pub foldsOf : Input → Bool → List Pair
+foldsOf i preserve = foldsBy (verdictOf i) i preserve
+
+-- keep and remove of each
+unfoldable pub pairNumbers : List Pair → List ℕ
+pairNumbers [] = []
+pairNumbers (x ∷ xs) = x .keep ∷ x .remove ∷ pairNumbers xs

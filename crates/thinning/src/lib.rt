@@ -1,19 +1,23 @@
-// The public entry: a mesh thinned by the plain walk, in memory that the caller lends.
+// The public entries: a mesh thinned in memory that the caller lends, by the heap walk or by the plain walk.
 ghost use mathlib.Core.Path.{_≡_};
 ghost use mathlib.Core.Bool.{true};
-ghost use Prim.Native.Nat.{_*_, _≤_};
+ghost use Prim.Native.Nat.{_+_, _*_, _≤_, min};
 ghost use lib.ListN.{length};
 ghost use Rattle.surface.specs.Lists.{every};
 ghost use Rattle.surface.specs.Faces.{proper, facesOf};
+ghost use Rattle.mesh.specs.Memory.{Room, liveFaces};
 ghost use Rattle.mesh.specs.Chains.{Tidy};
+ghost use Rattle.walks.specs.Whole.{foldsIn, WalkDone};
 ghost use Rattle.checks.specs.declared.Verdict.the-variants.{Admitted};
 ghost use Rattle.checks.specs.Verdicts.{verdictOf};
 ghost use Rattle.thinning.specs.Outcomes as Outcomes;
-ghost use Rattle.thinning.specs.Entry.{inputOf, Leaves, Answered};
+ghost use Rattle.thinning.specs.Outcomes.{foldsOf};
+ghost use Rattle.thinning.specs.Entry.{largest, inputOf, listed, Leaves, Answered};
 ghost use Rattle.thinning.specs.Stages.{Working, Measured, copyOf, Zeroed, LaidOut, thinnedIn, outcomeIn, Finished};
 use checks::Rooms;
 use checks::Verdict;
 use placement::Limit;
+use walks::Walked;
 
 // No coordinate is larger: 1,048,576.
 const BOUND: f32 = 1048576.0;
@@ -25,6 +29,12 @@ pub struct Answer {
     pub points: u32,
     pub faces: u32,
     pub folds: u32,
+}
+
+// How the mesh is walked: by every cost worked out anew, or by a queue. The two have one statement.
+enum Engine {
+    Plain,
+    Heap,
 }
 
 // A refusal has zeros in the last three.
@@ -109,6 +119,66 @@ fn laid_out(
     borders
 }
 
+// Walks the mesh that is laid out.
+fn walk_by(
+    engine: Engine,
+    w: &mut [u32],
+    p: &mut [f32],
+    q: &mut [f64],
+    v: usize,
+    f: usize,
+    target: usize,
+    limit: Limit,
+) -> Walked
+    requires { ⌜ Tidy v f (now w) ⌝ ∗ ⌜ length (liveFaces f (now w)) ≡ f ⌝ ∗ ⌜ 3 * v + 9 * f ≤ length (now p) ⌝ ∗ ⌜ 10 * v + 3 * f ≤ length (now q) ⌝ }
+    ensures { λ r. ⌜ WalkDone v f (now (w .entry)) (now (p .entry)) (now (q .entry)) target limit largest (now (w .exit)) (now (p .exit)) (now (q .exit)) r ⌝ }
+{
+    match engine {
+        Engine::Plain => walks::plain_walk(w, p, q, v, f, target, limit, BOUND),
+        Engine::Heap => heapwalk::heap_walk(w, p, q, v, f, target, limit, BOUND),
+    }
+}
+
+// The lesser of two numbers.
+fn lesser(a: usize, b: usize) -> usize
+    ensures { λ r. ⌜ r ≡ min a b ⌝ }
+{
+    if a < b { a } else { b }
+}
+
+// Lists the folds that a walk has written down, as far as there is room.
+fn list_folds(w: &[u32], v: usize, f: usize, made: usize, folds: &mut [u32])
+    requires { ⌜ Room v f (now w) ⌝ ∗ ⌜ made ≤ f ⌝ }
+    ensures { λ _. ⌜ now (folds .exit) ≡ listed (foldsIn v f (now (w .entry)) made) (now (folds .entry)) ⌝ }
+{
+    let from = 24 * f + 5 * v;
+    let n = lesser(2 * made, folds.len());
+    for i in 0..n {
+        folds[i] = w[from + i];
+    }
+}
+
+// Walks the mesh that is laid out, and lists the folds.
+fn walked(
+    engine: Engine,
+    w: &mut [u32],
+    p: &mut [f32],
+    q: &mut [f64],
+    v: usize,
+    f: usize,
+    target: usize,
+    limit: Limit,
+    folds: &mut [u32],
+) -> Walked
+    requires { ⌜ Tidy v f (now w) ⌝ ∗ ⌜ length (liveFaces f (now w)) ≡ f ⌝ ∗ ⌜ 3 * v + 9 * f ≤ length (now p) ⌝ ∗ ⌜ 10 * v + 3 * f ≤ length (now q) ⌝ }
+    ensures done { λ r. ⌜ WalkDone v f (now (w .entry)) (now (p .entry)) (now (q .entry)) target limit largest (now (w .exit)) (now (p .exit)) (now (q .exit)) r ⌝ }
+    ensures folds { λ r. ⌜ now (folds .exit) ≡ listed (foldsIn v f (now (w .exit)) (r .folds)) (now (folds .entry)) ⌝ }
+{
+    let walked = walk_by(engine, w, p, q, v, f, target, limit);
+    list_folds(w, v, f, walked.folds, folds);
+    walked
+}
+
 // Writes the mesh that the walk has left.
 fn written(
     w: &mut [u32],
@@ -154,8 +224,9 @@ fn finished(
     }
 }
 
-// A mesh that is admitted to the walk: laid out, walked, and written.
+// A mesh that is admitted to the walk: laid out, walked, its folds listed, and written.
 fn admitted(
+    engine: Engine,
     points: &[f32],
     faces: &[u32],
     ratio: f32,
@@ -166,15 +237,17 @@ fn admitted(
     w: &mut [u32],
     p: &mut [f32],
     q: &mut [f64],
+    folds: &mut [u32],
 ) -> Answer
     requires { ⌜ verdictOf (inputOf (now points) (now faces) ratio limit (now «out_points») (now «out_faces») (now w) (now p) (now q)) ≡ Admitted ⌝ }
-    ensures { λ r. ⌜ Answered (inputOf (now (points .entry)) (now (faces .entry)) ratio limit (now («out_points» .entry)) (now («out_faces» .entry)) (now (w .entry)) (now (p .entry)) (now (q .entry))) preserve (now («out_points» .entry)) (now («out_faces» .entry)) (now (w .entry)) (now (p .entry)) (now (q .entry)) (now («out_points» .exit)) (now («out_faces» .exit)) (now (w .exit)) (now (p .exit)) (now (q .exit)) r ⌝ }
+    ensures answer { λ r. ⌜ Answered (inputOf (now (points .entry)) (now (faces .entry)) ratio limit (now («out_points» .entry)) (now («out_faces» .entry)) (now (w .entry)) (now (p .entry)) (now (q .entry))) preserve (now («out_points» .entry)) (now («out_faces» .entry)) (now (w .entry)) (now (p .entry)) (now (q .entry)) (now («out_points» .exit)) (now («out_faces» .exit)) (now (w .exit)) (now (p .exit)) (now (q .exit)) r ⌝ }
+    ensures folds { λ _. ⌜ now (folds .exit) ≡ listed (foldsOf (inputOf (now (points .entry)) (now (faces .entry)) ratio limit (now («out_points» .entry)) (now («out_faces» .entry)) (now (w .entry)) (now (p .entry)) (now (q .entry))) preserve) (now (folds .entry)) ⌝ }
 {
     let v = points.len() / 3;
     let f = faces.len() / 3;
     let target = bits::cut::target(ratio, f as u32) as usize;
     let borders = laid_out(points, faces, preserve, w, p, q, v, f);
-    let walked = walks::plain_walk(w, p, q, v, f, target, limit, BOUND);
+    let walked = walked(engine, w, p, q, v, f, target, limit, folds);
     let answer = finished(
         w,
         p,
@@ -190,8 +263,9 @@ fn admitted(
     answer
 }
 
-// Thins a mesh by the plain walk. For any input the answer and every lent cell are those of document 01.
-pub fn thin_plain(
+// Thins a mesh and lists its folds, by one walk or the other.
+fn thin_by(
+    engine: Engine,
     points: &[f32],
     faces: &[u32],
     ratio: f32,
@@ -202,8 +276,10 @@ pub fn thin_plain(
     work_u32: &mut [u32],
     work_f32: &mut [f32],
     work_f64: &mut [f64],
+    folds: &mut [u32],
 ) -> Answer
-    ensures { λ r. ⌜ Answered (inputOf (now (points .entry)) (now (faces .entry)) ratio limit (now («out_points» .entry)) (now («out_faces» .entry)) (now («work_u32» .entry)) (now («work_f32» .entry)) (now («work_f64» .entry))) preserve (now («out_points» .entry)) (now («out_faces» .entry)) (now («work_u32» .entry)) (now («work_f32» .entry)) (now («work_f64» .entry)) (now («out_points» .exit)) (now («out_faces» .exit)) (now («work_u32» .exit)) (now («work_f32» .exit)) (now («work_f64» .exit)) r ⌝ }
+    ensures answer { λ r. ⌜ Answered (inputOf (now (points .entry)) (now (faces .entry)) ratio limit (now («out_points» .entry)) (now («out_faces» .entry)) (now («work_u32» .entry)) (now («work_f32» .entry)) (now («work_f64» .entry))) preserve (now («out_points» .entry)) (now («out_faces» .entry)) (now («work_u32» .entry)) (now («work_f32» .entry)) (now («work_f64» .entry)) (now («out_points» .exit)) (now («out_faces» .exit)) (now («work_u32» .exit)) (now («work_f32» .exit)) (now («work_f64» .exit)) r ⌝ }
+    ensures folds { λ _. ⌜ now (folds .exit) ≡ listed (foldsOf (inputOf (now (points .entry)) (now (faces .entry)) ratio limit (now («out_points» .entry)) (now («out_faces» .entry)) (now («work_u32» .entry)) (now («work_f32» .entry)) (now («work_f64» .entry))) preserve) (now (folds .entry)) ⌝ }
 {
     let rooms = Rooms {
         points: out_points.len(),
@@ -226,6 +302,7 @@ pub fn thin_plain(
             work_f64,
         ),
         Verdict::Admitted => admitted(
+            engine,
             points,
             faces,
             ratio,
@@ -236,6 +313,104 @@ pub fn thin_plain(
             work_u32,
             work_f32,
             work_f64,
+            folds,
         ),
     }
+}
+
+// Thins a mesh by the plain walk. For any input the answer and every lent cell are those of document 01.
+pub fn thin_plain(
+    points: &[f32],
+    faces: &[u32],
+    ratio: f32,
+    preserve: bool,
+    limit: Limit,
+    out_points: &mut [f32],
+    out_faces: &mut [u32],
+    work_u32: &mut [u32],
+    work_f32: &mut [f32],
+    work_f64: &mut [f64],
+) -> Answer
+    ensures { λ r. ⌜ Answered (inputOf (now (points .entry)) (now (faces .entry)) ratio limit (now («out_points» .entry)) (now («out_faces» .entry)) (now («work_u32» .entry)) (now («work_f32» .entry)) (now («work_f64» .entry))) preserve (now («out_points» .entry)) (now («out_faces» .entry)) (now («work_u32» .entry)) (now («work_f32» .entry)) (now («work_f64» .entry)) (now («out_points» .exit)) (now («out_faces» .exit)) (now («work_u32» .exit)) (now («work_f32» .exit)) (now («work_f64» .exit)) r ⌝ }
+{
+    let mut none = [0u32; 1];
+    thin_by(
+        Engine::Plain,
+        points,
+        faces,
+        ratio,
+        preserve,
+        limit,
+        out_points,
+        out_faces,
+        work_u32,
+        work_f32,
+        work_f64,
+        &mut none,
+    )
+}
+
+// Thins a mesh by the heap walk, and lists its folds: keep and remove of each, as far as there is room.
+pub fn thin_folds(
+    points: &[f32],
+    faces: &[u32],
+    ratio: f32,
+    preserve: bool,
+    limit: Limit,
+    out_points: &mut [f32],
+    out_faces: &mut [u32],
+    work_u32: &mut [u32],
+    work_f32: &mut [f32],
+    work_f64: &mut [f64],
+    folds: &mut [u32],
+) -> Answer
+    ensures answer { λ r. ⌜ Answered (inputOf (now (points .entry)) (now (faces .entry)) ratio limit (now («out_points» .entry)) (now («out_faces» .entry)) (now («work_u32» .entry)) (now («work_f32» .entry)) (now («work_f64» .entry))) preserve (now («out_points» .entry)) (now («out_faces» .entry)) (now («work_u32» .entry)) (now («work_f32» .entry)) (now («work_f64» .entry)) (now («out_points» .exit)) (now («out_faces» .exit)) (now («work_u32» .exit)) (now («work_f32» .exit)) (now («work_f64» .exit)) r ⌝ }
+    ensures folds { λ _. ⌜ now (folds .exit) ≡ listed (foldsOf (inputOf (now (points .entry)) (now (faces .entry)) ratio limit (now («out_points» .entry)) (now («out_faces» .entry)) (now («work_u32» .entry)) (now («work_f32» .entry)) (now («work_f64» .entry))) preserve) (now (folds .entry)) ⌝ }
+{
+    thin_by(
+        Engine::Heap,
+        points,
+        faces,
+        ratio,
+        preserve,
+        limit,
+        out_points,
+        out_faces,
+        work_u32,
+        work_f32,
+        work_f64,
+        folds,
+    )
+}
+
+// Thins a mesh by the heap walk. The statement is word for word that of the plain walk.
+pub fn thin(
+    points: &[f32],
+    faces: &[u32],
+    ratio: f32,
+    preserve: bool,
+    limit: Limit,
+    out_points: &mut [f32],
+    out_faces: &mut [u32],
+    work_u32: &mut [u32],
+    work_f32: &mut [f32],
+    work_f64: &mut [f64],
+) -> Answer
+    ensures { λ r. ⌜ Answered (inputOf (now (points .entry)) (now (faces .entry)) ratio limit (now («out_points» .entry)) (now («out_faces» .entry)) (now («work_u32» .entry)) (now («work_f32» .entry)) (now («work_f64» .entry))) preserve (now («out_points» .entry)) (now («out_faces» .entry)) (now («work_u32» .entry)) (now («work_f32» .entry)) (now («work_f64» .entry)) (now («out_points» .exit)) (now («out_faces» .exit)) (now («work_u32» .exit)) (now («work_f32» .exit)) (now («work_f64» .exit)) r ⌝ }
+{
+    let mut none = [0u32; 1];
+    thin_by(
+        Engine::Heap,
+        points,
+        faces,
+        ratio,
+        preserve,
+        limit,
+        out_points,
+        out_faces,
+        work_u32,
+        work_f32,
+        work_f64,
+        &mut none,
+    )
 }

@@ -30,7 +30,9 @@ same-length-5 : tie.Need-same-length-5
 same-length-5 c = search needs
 
 returns : tie.Need-returns
-returns c = called (rw (c .before .before .before .before .before .before .before .before .before .before .before .before .before .before .before .before .before .before .limit-of .ensures) at (c .before .before .before .before .before .before .before .before .before .before .before .before .thin-plain .ensures)) (c .tell .ensures)
+returns c =
+    let call = c .before .before .before .before .before .before .before .before .before .before .before .before in
+    called (rw (call .before .before .before .before .before .before .limit-of .ensures) at (call .thin-plain .ensures)) (c .tell .ensures)
 
 pub hjoltravan-thin-plain-spec : {M : Type 1} → statement M
 hjoltravan-thin-plain-spec =

@@ -12,14 +12,14 @@ use Rattle.thin.proofs.write_thinned.Statement.{statement}
 use Rattle.thin.proofs.write_thinned.Tie as tie
 
 -- the function's entry, from where the library has answered
-abbrev start : tie.After-thin-plain → tie.Start
+abbrev start : tie.After-thin → tie.Start
 start c = c .before .before .before .before .before .before .before .before .before .before .before .before .before .before
 
 -- the input that the reply names, and its outcome
-abbrev callHere : tie.After-thin-plain → Input
+abbrev callHere : tie.After-thin → Input
 callHere c = callOf (start c .args .head) (start c .args .points .now) (start c .args .faces .now)
 
-abbrev outcomeHere : tie.After-thin-plain → Outcome
+abbrev outcomeHere : tie.After-thin → Outcome
 outcomeHere c = outcome (callHere c) (start c .args .head .preserve)
 
 point-cells-requires : tie.Need-point-cells-requires
@@ -37,23 +37,23 @@ work-f32-cells-requires c κs = search needs
 work-f64-cells-requires : tie.Need-work-f64-cells-requires
 work-f64-cells-requires c κs = search needs
 
-slice-aggregate-thin-plain : tie.Need-slice-aggregate-thin-plain
-slice-aggregate-thin-plain c = search needs
+slice-aggregate-thin : tie.Need-slice-aggregate-thin
+slice-aggregate-thin c = search needs
 
-slice-aggregate-thin-plain-2 : tie.Need-slice-aggregate-thin-plain-2
-slice-aggregate-thin-plain-2 c = search needs
+slice-aggregate-thin-2 : tie.Need-slice-aggregate-thin-2
+slice-aggregate-thin-2 c = search needs
 
-slice-aggregate-thin-plain-3 : tie.Need-slice-aggregate-thin-plain-3
-slice-aggregate-thin-plain-3 c = search needs
+slice-aggregate-thin-3 : tie.Need-slice-aggregate-thin-3
+slice-aggregate-thin-3 c = search needs
 
-slice-aggregate-thin-plain-4 : tie.Need-slice-aggregate-thin-plain-4
-slice-aggregate-thin-plain-4 c = search needs
+slice-aggregate-thin-4 : tie.Need-slice-aggregate-thin-4
+slice-aggregate-thin-4 c = search needs
 
-slice-aggregate-thin-plain-5 : tie.Need-slice-aggregate-thin-plain-5
-slice-aggregate-thin-plain-5 c = search needs
+slice-aggregate-thin-5 : tie.Need-slice-aggregate-thin-5
+slice-aggregate-thin-5 c = search needs
 
-thin-plain-requires : tie.Need-thin-plain-requires
-thin-plain-requires c κs = search needs
+thin-requires : tie.Need-thin-requires
+thin-requires c κs = search needs
 
 slice-aggregate-write-answer : tie.Need-slice-aggregate-write-answer
 slice-aggregate-write-answer c = search needs
@@ -68,7 +68,7 @@ write-answer-requires c κs =
     rw (same-call (start called .args .head) (start called .args .points .now) _ (start called .args .faces .now) _ _ _ _
     (called .before .before .before .before .before .before .before .before .before .before .point-cells .ensures) (called .before .before .before .before .before .before .before .before .before .face-cells .ensures)
     (called .before .before .before .before .before .before .before .before .work-u32-cells .ensures) (called .before .before .before .before .before .before .before .work-f32-cells .ensures)
-    (called .before .before .before .before .before .before .work-f64-cells .ensures)) at (called .thin-plain .ensures) in (
+    (called .before .before .before .before .before .before .work-f64-cells .ensures)) at (called .thin .ensures) in (
       start called .pre,
       shown (outcomeHere called) (counted (callHere called) (start called .args .head .preserve)) _ _ (left .answered) (left .points-out) (left .faces-out)
           (search needs) (search needs),
@@ -84,7 +84,7 @@ returns c =
     rw (same-call (start called .args .head) (start called .args .points .now) _ (start called .args .faces .now) _ _ _ _
     (called .before .before .before .before .before .before .before .before .before .before .point-cells .ensures) (called .before .before .before .before .before .before .before .before .before .face-cells .ensures)
     (called .before .before .before .before .before .before .before .before .work-u32-cells .ensures) (called .before .before .before .before .before .before .before .work-f32-cells .ensures)
-    (called .before .before .before .before .before .before .work-f64-cells .ensures)) at (called .thin-plain .ensures) in
+    (called .before .before .before .before .before .before .work-f64-cells .ensures)) at (called .thin .ensures) in
     outcome-texted (outcomeHere called) (counted (callHere called) (start called .args .head .preserve)) _ _
     (left .answered) (left .points-out) (left .faces-out) (start called .args .head .unit) (c .before .before .write-answer .ensures)
 
@@ -97,12 +97,12 @@ write-thinned-spec =
     work-u32-cells-requires
     work-f32-cells-requires
     work-f64-cells-requires
-    slice-aggregate-thin-plain
-    slice-aggregate-thin-plain-2
-    slice-aggregate-thin-plain-3
-    slice-aggregate-thin-plain-4
-    slice-aggregate-thin-plain-5
-    thin-plain-requires
+    slice-aggregate-thin
+    slice-aggregate-thin-2
+    slice-aggregate-thin-3
+    slice-aggregate-thin-4
+    slice-aggregate-thin-5
+    thin-requires
     slice-aggregate-write-answer
     slice-aggregate-write-answer-2
     write-answer-requires

@@ -12,7 +12,7 @@ use Rattle.thinning.specs.Entry.{inputOf}
 use Rattle.thinning.specs.Stages.{Working}
 use Rattle.thinning.proofs.FrameLaws.{zeroed-lengths}
 use Rattle.thinning.proofs.SizeLaws.{working}
-use Rattle.thinning.proofs.AdmittedLaws.{walk-asked, points-stay, counts-few, clear-asked, zeroed-all, left}
+use Rattle.thinning.proofs.AdmittedLaws.{walk-asked, points-stay, counts-few, folds-listed, clear-asked, zeroed-all, left}
 use Rattle.thinning.proofs.admitted.Statement.{statement}
 use Rattle.thinning.proofs.admitted.Tie as tie
 
@@ -35,18 +35,18 @@ abbrev aimed : tie.After-laid-out → tie.After-target
 aimed c = c .before .before .before .before
 
 abbrev begun : tie.After-laid-out → tie.Start
-begun c = aimed c .before .before .before .before .before .before .before .before
+begun c = aimed c .before .before .before .before .before .before .before .before .before
 
-abbrev laid : tie.After-plain-walk → tie.After-laid-out
-laid c = c .before .before .before .before .before .before .before .before .before .before
+abbrev laid : tie.After-walked → tie.After-laid-out
+laid c = c .before .before .before .before .before .before .before .before .before .before .before
 
-abbrev walked : tie.After-finished → tie.After-plain-walk
-walked c = c .before .before .before .before .before .before .before .before .before .before .before
+abbrev walked : tie.After-finished → tie.After-walked
+walked c = c .before .before .before .before .before .before .before .before .before .before .before .before .before
 
 abbrev finished : tie.After-clear → tie.After-finished
 finished c = c .before .before .before .before .before .before .before .before .before .before
 
-abbrev cleared : tie.After-slice-known17 → tie.After-clear
+abbrev cleared : tie.After-slice-known19 → tie.After-clear
 cleared c = c .before .before .before .before .before .before
 
 -- the target is document 01's
@@ -57,30 +57,30 @@ aim c = aimed c .target .ensures
 -- ---- the needs
 
 cast-target : tie.Need-cast-target
-cast-target c = omega (arith, fine (c .before .before .before .before .before .before .before) .sized .faces-most)
+cast-target c = omega (arith, fine (c .before .before .before .before .before .before .before .before) .sized .faces-most)
 
 target-requires : tie.Need-target-requires
 target-requires c κs = search needs
 
 laid-out-requires : tie.Need-laid-out-requires
 laid-out-requires c κs =
-    let start = c .before .before .before .before .before .before .before .before .before .before .before in
+    let start = c .before .before .before .before .before .before .before .before .before .before .before .before in
     let known = fine start in
     (room start, (known .sized .points-by-three, (known .sized .faces-by-three, known .faces-proper)))
 
-plain-walk-requires : tie.Need-plain-walk-requires
-plain-walk-requires c κs =
-    let stage = c .before .before .before .before .before .before .before .before .before in
+walked-requires : tie.Need-walked-requires
+walked-requires c κs =
+    let stage = c .before .before .before .before .before .before .before .before .before .before in
     let start = begun stage in
     walk-asked (input start) (start .args .preserve) (start .pre) (room start) (stage .laid-out .ensures)
 
 finished-requires : tie.Need-finished-requires
 finished-requires c κs =
-    let stage = c .before .before .before .before .before .before .before .before .before .before in
+    let stage = c .before .before .before .before .before .before .before .before .before .before .before .before in
     let before = laid stage in
     let start = begun before in
     let known = fine start .sized in
-    let done = stage .plain-walk .ensures in (
+    let done = stage .walked .ensures .0 in (
       done .tidy,
       (
         points-stay (input start) (start .args .preserve) (start .pre) (room start) (before .laid-out .ensures) (aim before) done,
@@ -100,10 +100,10 @@ clear-requires c κs =
     let before = laid (walked stage) in
     let start = begun before in
     clear-asked (input start) (start .args .preserve) (start .pre) (room start) (before .laid-out .ensures) (aim before)
-    (walked stage .plain-walk .ensures) (stage .finished .ensures)
+    (walked stage .walked .ensures .0) (stage .finished .ensures)
 
 -- the memory is as long at the end as at the start
-lengths : (c : tie.After-slice-known17) →
+lengths : (c : tie.After-slice-known19) →
     let start = begun (laid (walked (finished (cleared c)))) in
     let last = cleared c .clear .last in
     (length (last .0) ≡ length (start .args .w .now))
@@ -115,7 +115,7 @@ lengths c =
     let start = begun before in
     zeroed-lengths (room start)
     (zeroed-all (input start) (start .args .preserve) (start .pre) (room start) (before .laid-out .ensures) (aim before)
-    (walked stage .plain-walk .ensures) (stage .finished .ensures) (cleared c .clear .ensures))
+    (walked stage .walked .ensures .0) (stage .finished .ensures) (cleared c .clear .ensures))
 
 same-length : tie.Need-same-length
 same-length c = search needs
@@ -132,13 +132,20 @@ same-length-4 c = lengths c .1
 same-length-5 : tie.Need-same-length-5
 same-length-5 c = lengths c .2
 
+same-length-6 : tie.Need-same-length-6
+same-length-6 c = search needs
+
 returns : tie.Need-returns
 returns c =
     let stage = finished (cleared c) in
-    let before = laid (walked stage) in
-    let start = begun before in
-    left (input start) (start .args .preserve) (start .pre) (room start) (before .laid-out .ensures) (aim before)
-    (walked stage .plain-walk .ensures) (stage .finished .ensures) (cleared c .clear .ensures)
+    let call = walked stage in
+    let before = laid call in
+    let start = begun before in (
+      left (input start) (start .args .preserve) (start .pre) (room start) (before .laid-out .ensures) (aim before)
+          (call .walked .ensures .0) (stage .finished .ensures) (cleared c .clear .ensures),
+      folds-listed (input start) (start .args .preserve) (start .pre) (room start) (before .laid-out .ensures) (aim before)
+          (call .walked .ensures .0) (start .args .folds .now) (call .walked .ensures .1),
+    )
 
 pub admitted-spec : {M : Type 1} → statement M
 admitted-spec =
@@ -147,7 +154,7 @@ admitted-spec =
     cast-target
     target-requires
     laid-out-requires
-    plain-walk-requires
+    walked-requires
     finished-requires
     clear-requires
     same-length
@@ -155,4 +162,5 @@ admitted-spec =
     same-length-3
     same-length-4
     same-length-5
+    same-length-6
     returns)

@@ -1,4 +1,4 @@
--- `thinning::thin_plain` meets its contract for any input: each arm leaves the outcome that the checks' verdict names.
+-- `thinning::thin_by` meets its contract for any input: each arm leaves the outcome that the checks' verdict names.
 -- Assumes nothing.
 use mathlib.Core.Path.{_≡_, refl, sym, _∙_}
 use borrow.Author.Needs.{needs}
@@ -8,12 +8,12 @@ use Rattle.checks.proofs.VerdictLaws as verdicts
 use Rattle.thinning.specs.Entry.{inputOf}
 use Rattle.thinning.proofs.SizeLaws.{working, measured}
 use Rattle.thinning.proofs.VerdictLaws as outcomes
-use Rattle.thinning.proofs.thin_plain.Statement.{statement}
-use Rattle.thinning.proofs.thin_plain.Tie as tie
+use Rattle.thinning.proofs.thin_by.Statement.{statement}
+use Rattle.thinning.proofs.thin_by.Tie as tie
 
 -- the function's entry, from where the verdict is known, and its input
 abbrev entry : tie.After-verdict-of → tie.Start
-entry c = c .before .before .before .before .before .before .before .before
+entry c = c .before .before .before .before .before .before .before .before .before
 
 abbrev input : tie.After-verdict-of → Input
 input c =
@@ -49,7 +49,7 @@ enum-told-2 c = search needs
 
 admitted-requires : tie.Need-admitted-requires
 admitted-requires c κs =
-    let known = c .before .before .before .before .before in
+    let known = c .before .before .before .before .before .before in
     sym (known .before .before .verdict-of .ensures) ∙ known .enum-told2 .given .1
 
 returns : tie.Need-returns
@@ -57,8 +57,11 @@ returns c =
     let known = c .before .before in
     let found = known .before .before in
     let a = entry found .args in
-    outcomes.refused (input found) (a .preserve) _ _ (a .out-points .now) (a .out-faces .now) (a .work-u32 .now) (a .work-f32 .now) (a .work-f64 .now)
-    (c .refusal .result) (sym (known .number .given .1) ∙ found .verdict-of .ensures) (c .refusal .ensures)
+    let verdict = sym (known .number .given .1) ∙ found .verdict-of .ensures in (
+      outcomes.refused (input found) (a .preserve) _ _ (a .out-points .now) (a .out-faces .now) (a .work-u32 .now) (a .work-f32 .now) (a .work-f64 .now)
+          (c .refusal .result) verdict (c .refusal .ensures),
+      outcomes.refused-folds (input found) (a .preserve) _ _ (a .folds .now) verdict,
+    )
 
 same-length : tie.Need-same-length
 same-length c = search needs
@@ -80,7 +83,10 @@ returns-2 c =
     let done = c .before .before .before .before .before .before .before .before .before .before in
     let known = done .before .before .before .before .before .before in
     let i = input (known .before .before) in
-    rw (sym (outcomes.copied i (entry (known .before .before) .args .preserve) (is-copied known))) (done .copied .ensures)
+    let a = entry (known .before .before) .args in (
+      rw (sym (outcomes.copied i (a .preserve) (is-copied known))) (done .copied .ensures),
+      outcomes.copied-folds i (a .preserve) (a .folds .now) (is-copied known),
+    )
 
 same-length-6 : tie.Need-same-length-6
 same-length-6 c = search needs
@@ -97,11 +103,14 @@ same-length-9 c = search needs
 same-length-10 : tie.Need-same-length-10
 same-length-10 c = search needs
 
-returns-3 : tie.Need-returns-3
-returns-3 c = c .before .before .before .before .before .before .before .before .before .before .admitted .ensures
+same-length-11 : tie.Need-same-length-11
+same-length-11 c = search needs
 
-pub thin-plain-spec : {M : Type 1} → statement M
-thin-plain-spec =
+returns-3 : tie.Need-returns-3
+returns-3 c = search needs
+
+pub thin-by-spec : {M : Type 1} → statement M
+thin-by-spec =
     tie.close
     (tie.spec
     verdict-of-requires
@@ -123,4 +132,5 @@ thin-plain-spec =
     same-length-8
     same-length-9
     same-length-10
+    same-length-11
     returns-3)

@@ -1,0 +1,18 @@
+-- `single::patterns::bits_of_f64` meets its contract. Assumes nothing.
+use borrow.Author.Needs.{needs}
+use Rattle.bits.proofs.NotANumber.{equals-itself}
+use Rattle.single.proofs.PatternLaws.{written64}
+use Rattle.single.proofs.patterns.bits_of_f64.Statement.{statement}
+use Rattle.single.proofs.patterns.bits_of_f64.Tie as tie
+
+returns : tie.Need-returns
+returns c = written64 (c .before .args .x) (c .if1 .taken)
+
+float-to-bits-result : tie.Need-float-to-bits-result
+float-to-bits-result c = equals-itself (c .before .args .x) (c .if1 .left)
+
+returns-2 : tie.Need-returns-2
+returns-2 c = search needs
+
+pub bits-of-f64-spec : {M : Type 1} → statement M
+bits-of-f64-spec = tie.close (tie.spec returns float-to-bits-result returns-2)
