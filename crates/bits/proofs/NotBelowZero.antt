@@ -3,7 +3,7 @@ use Prim.Native.Nat.{ℕ, zero, suc, _+_, _*_, _≤_, _<_, _^_}
 use mathlib.Core.Bool.{Bool, true, false, not, cond}
 use lib.IntN.{ℤ, pos}
 use lib.Dec.{T, ltb, eqb, eqb·suc-zero}
-use lib.Ieee.{Float, nan, inf, fin, Format, prec, emax, low, odd, units, round, sum, add, mul, div, ofInt, isNan}
+use lib.Ieee.{Float, inf, fin, Format, prec, emax, low, odd, units, round, sum, add, mul, div, ofInt, isNan}
 use lib.Ieee.Back.{round-whole}
 use lib.Ieee.Fits.{round-is}
 use lib.Ieee.Positive.{positive, positive-of-value}

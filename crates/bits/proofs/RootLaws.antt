@@ -4,7 +4,7 @@ use Prim.Native.Nat.{ℕ, zero, suc, _+_, _-_, _*_, _^_, _≤_, _<_}
 use native.Mathlib.Nat.{mul-le-mul, mul-le-mul-left, mul-le-mul-right, le-trans, le-of-lt, lt-of-lt-of-le, lt-trans, lt-irrefl, lt-of-le-of-lt, eq-or-lt-of-le, add-assoc, add-sub-cancel, two-pow-succ}
 use native.Mathlib.Omega.{arith}
 use mathlib.Core.Path.{_≡_, refl, sym}
-use mathlib.Core.Logic.{_⊎_, inl, inr}
+use mathlib.Core.Logic.{inl, inr}
 use mathlib.Core.Bool.{Bool, true, false, not, cond}
 use lib.Arith.{le→nltb}
 use lib.Dec.{T, ltb, eqb, ltb→lt, nltb→le, lit≤}

@@ -1,10 +1,10 @@
 -- From the check that the code makes to the statement. The code has a whole number n, the pattern's number with an even power of two taken out,
 -- and a root m of it, rounded: m * m - m < n and n at most m * m + m. The pattern with the significand m is then the nearest root.
 use Prim.Native.Nat.{ℕ, zero, suc, _+_, _-_, _*_, _/_, _%_, _^_, _≤_, _<_}
-use native.Mathlib.Nat.{mul-assoc, mul-comm, mul-left-comm, mul-mul-mul-comm, add-mul, mul-add, mul-one, one-mul, mul-le-mul, mul-le-mul-left, mul-le-mul-right, mul-lt-mul-of-pos-right, mul-lt-mul-of-pos-left, mul-pos, lt-of-lt-of-le, lt-of-le-of-lt, lt-of-not-le, eq-or-lt-of-le, le-of-lt, le-of-eq, le-trans, lt-irrefl, mod-eq-of-lt}
+use native.Mathlib.Nat.{mul-assoc, mul-left-comm, mul-mul-mul-comm, add-mul, mul-add, mul-one, one-mul, mul-le-mul, mul-le-mul-left, mul-le-mul-right, mul-lt-mul-of-pos-right, mul-pos, lt-of-lt-of-le, lt-of-le-of-lt, lt-of-not-le, eq-or-lt-of-le, le-of-lt, le-of-eq, le-trans, lt-irrefl}
 use native.Mathlib.Omega.{arith}
 use mathlib.Core.Path.{_≡_, refl, sym, ap, _∙_, subst}
-use mathlib.Core.Logic.{_⊎_, inl, inr}
+use mathlib.Core.Logic.{inl, inr}
 use lib.Count.{leadingZeros, leading-top}
 use lib.Pow.{pow-pos, pow-add, pow-mono, shl-lt}
 use Rattle.bits.specs.Root.{steps, halfway, fourfold, NearestRoot}

@@ -1,5 +1,5 @@
 -- No f32 has its root half-way between two neighbours: a half-way point squared has more binary digits than a significand has.
-use Prim.Native.Nat.{ℕ, zero, suc, _+_, _-_, _*_, _/_, _%_, _^_, _≤_, _<_}
+use Prim.Native.Nat.{ℕ, suc, _+_, _-_, _*_, _/_, _%_, _^_, _≤_, _<_}
 use native.Mathlib.Nat.{mul-assoc, mul-comm, mul-left-comm, mul-mul-mul-comm, one-mul, mul-one, add-mul, pow-succ', eq-of-mul-eq-mul-right, mul-le-mul-left, mul-lt-mul-of-pos-right, lt-of-le-of-lt, lt-of-lt-of-le, lt-of-not-le, lt-irrefl, le-of-lt, le-trans, le-mul-of-pos-right}
 use native.Mathlib.Omega.{arith}
 use mathlib.Core.Path.{_≡_, refl, sym, ap, ap₂, _∙_}

@@ -1,9 +1,8 @@
 -- The order of costs: IEEE 754-2019 totalOrder (section 5.10) on f64 patterns, and the signed key that stands for it.
-use Prim.Native.Nat.{ℕ, suc, _+_, _-_, _/_, _%_, _^_}
-use mathlib.Core.Bool.{Bool, true, false, not, _&&_, _||_, cond}
-use lib.Dec.{leb, ltb, eqb}
+use Prim.Native.Nat.{ℕ, _-_, _%_, _^_}
+use mathlib.Core.Bool.{Bool, not, _&&_, _||_, cond}
+use lib.Dec.{leb, ltb}
 use lib.IntN.{ℤ, pos, negsuc}
-use lib.Signed.{leZ, ltZ}
 use lib.Ieee.{Float, binary64, ofBits, toBits, lt, nanBits}
 
 -- ---- the parts of a pattern

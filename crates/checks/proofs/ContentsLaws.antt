@@ -6,12 +6,12 @@ use mathlib.Core.Bool.{true, false}
 use borrow.Author.Tests.{lt-ltb, le-ltb}
 use lib.ListN.{length}
 use lib.Ieee.{Float, eq}
-use Rattle.surface.specs.Lists.{some}
-use Rattle.surface.specs.Faces.{facesOf}
-use Rattle.checks.specs.declared.Verdict.{Verdict}
-use Rattle.checks.specs.declared.Verdict.the-variants.{Refused, Copied}
-use Rattle.checks.specs.Verdicts.{firstOf, zeroFloat, badCoordinate, faceVerdict, contentsVerdict}
-use Rattle.checks.proofs.ListLaws.{some-is-before-the-end}
+use Rattle.lists.specs.Lists.{some, firstOf}
+use Rattle.walk.specs.Faces.{facesOf}
+use Rattle.meaning.specs.declared.Verdict.{Verdict}
+use Rattle.meaning.specs.declared.Verdict.the-variants.{Refused, Copied}
+use Rattle.meaning.specs.Answers.{zeroFloat, badCoordinate, faceVerdict, contentsVerdict}
+use Rattle.checks.proofs.SearchLaws.{some-is-before-the-end}
 use Rattle.checks.proofs.OrderLaws.{decides, goes-on}
 
 -- `bad` is the place that the code found

@@ -7,10 +7,10 @@ use mathlib.Core.Path.{_≡_, refl, sym, ap, _∙_}
 use mathlib.Core.List.{List}
 use mathlib.Core.Bool.{Bool, true, false}
 use lib.ListN.{drop, drop-of-length-le}
-use Rattle.surface.specs.Faces.{facesOf}
-use Rattle.checks.specs.declared.Verdict.the-variants.{Refused, Admitted}
-use Rattle.checks.specs.Verdicts.{faceAt, outside, doubled, pick, faceVerdict}
-use Rattle.checks.proofs.ListLaws.{length-faces, faces-from}
+use Rattle.walk.specs.Faces.{facesOf, faceAt}
+use Rattle.meaning.specs.declared.Verdict.the-variants.{Refused, Admitted}
+use Rattle.meaning.specs.Answers.{outside, doubled, pick, faceVerdict}
+use Rattle.checks.proofs.SearchLaws.{length-faces, faces-from}
 use Rattle.checks.proofs.OrderLaws.{decides, goes-on}
 
 module _ (v f : ℕ) (numbers : List ℕ) where

@@ -7,15 +7,15 @@ use mathlib.Core.List.{List, [], _∷_}
 use mathlib.Core.Bool.{Bool, true, false, not, _&&_, _||_}
 use borrow.Author.Tests.{not-true}
 use lib.Dec.{ltb, eqb}
-use Rattle.surface.specs.declared.Face.{Face}
-use Rattle.surface.specs.Lists.{every}
-use Rattle.surface.specs.Faces.{proper}
-use Rattle.checks.specs.declared.Verdict.{Verdict}
-use Rattle.checks.specs.declared.Verdict.the-variants.{Refused, Copied, Admitted}
-use Rattle.checks.specs.Verdicts.{outside, doubled, pick, faceVerdict}
+use Rattle.walk.specs.declared.Face.{Face}
+use Rattle.lists.specs.Lists.{every}
+use Rattle.walk.specs.Faces.{proper}
+use Rattle.meaning.specs.declared.Verdict.{Verdict}
+use Rattle.meaning.specs.declared.Verdict.the-variants.{Refused, Copied, Admitted}
+use Rattle.meaning.specs.Answers.{outside, doubled, pick, faceVerdict}
 use Rattle.checks.specs.Facts.{LowestBad}
 use Rattle.checks.proofs.TestLaws.{and-true, both}
-use Rattle.checks.proofs.ListLaws.{first-here, first-there}
+use Rattle.checks.proofs.SearchLaws.{first-here, first-there}
 use Rattle.checks.proofs.OrderLaws.{goes-on, past, decided}
 
 -- a face is proper exactly where neither 8 nor 9 holds of it

@@ -1,6 +1,6 @@
 -- Laws of the checks: steps for the proofs of the code, and what follows from a verdict.
 pub mod FloatLaws
-pub mod ListLaws
+pub mod SearchLaws
 pub mod TestLaws
 pub mod OrderLaws
 pub mod FaceLaws
@@ -8,4 +8,3 @@ pub mod ContentsLaws
 pub mod FaceVerdictLaws
 pub mod VerdictLaws
 pub mod RefusalLaws
-pub mod VerdictExamples

@@ -4,9 +4,9 @@ use mathlib.Core.Path.{_≡_, refl, sym, ap, _∙_}
 use mathlib.Core.Logic.{_⊎_, inl, inr}
 use mathlib.Core.Bool.{Bool, true, false}
 use borrow.Author.Tests.{ltb-false}
-use Rattle.checks.specs.declared.Verdict.{Verdict}
-use Rattle.checks.specs.Verdicts.{large, pick}
-use Rattle.checks.proofs.TestLaws.{or-false}
+use Rattle.meaning.specs.declared.Verdict.{Verdict}
+use Rattle.meaning.specs.Answers.{large, pick}
+use Rattle.lists.proofs.TestLaws.{neither-of}
 
 -- a test that the code made holds: its verdict is given
 pub decides : (made test : Bool) (x later : Verdict) → made ≡ test → made ≡ true → x ≡ pick test x later
@@ -33,5 +33,5 @@ found-not made test e t = sym e ∙ t
 -- neither too many points nor too many faces
 pub not-large : (v f : ℕ) → large v f ≡ false → (v ≤ 65536) × (f ≤ 131072)
 not-large v f e =
-    let each = or-false _ _ e in
+    let each = neither-of _ _ e in
     (ltb-false 65536 v (each .0), ltb-false 131072 f (each .1))

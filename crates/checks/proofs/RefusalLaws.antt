@@ -8,14 +8,15 @@ use mathlib.Core.Bool.{Bool, true, false, cond}
 use borrow.Author.Tests.{le-leb}
 use lib.ListN.{length, getD}
 use lib.Ieee.{Float, nan, eq}
-use Rattle.surface.specs.declared.Face.{Face}
-use Rattle.surface.specs.Lists.{some}
-use Rattle.surface.specs.Faces.{facesOf}
-use Rattle.checks.specs.declared.Verdict.{Verdict}
-use Rattle.checks.specs.declared.Verdict.the-variants.{Refused, Copied}
-use Rattle.checks.specs.Verdicts.{Input, pointsIn, facesIn, firstOf, zeroFloat, uneven, large, short, empty, badRatio, badLimit, badCoordinate, outside, pick, faceVerdict, contentsVerdict, verdictOf}
+use Rattle.walk.specs.declared.Face.{Face}
+use Rattle.lists.specs.Lists.{some, firstOf}
+use Rattle.walk.specs.Faces.{facesOf}
+use Rattle.meaning.specs.declared.Verdict.{Verdict}
+use Rattle.meaning.specs.declared.Verdict.the-variants.{Refused, Copied}
+use Rattle.meaning.specs.Input.{Input, pointsIn, facesIn}
+use Rattle.meaning.specs.Answers.{zeroFloat, uneven, large, short, empty, badRatio, badLimit, badCoordinate, outside, pick, faceVerdict, contentsVerdict, verdictOf}
 use Rattle.checks.specs.Facts.{noFace, FirstAt, LowestBad, InTable}
-use Rattle.checks.proofs.ListLaws.{first-of, length-faces}
+use Rattle.checks.proofs.SearchLaws.{first-of, length-faces}
 use Rattle.checks.proofs.OrderLaws.{past, decided, not-large}
 use Rattle.checks.proofs.FaceVerdictLaws.{refuses, lowest-of}
 use Rattle.checks.proofs.VerdictLaws.{passed-six}

@@ -8,14 +8,10 @@ use mathlib.Core.Bool.{Bool, true, false, not, _&&_, _||_}
 use borrow.Author.Tests.{eqb-true, eqb-false, eq-eqb, ne-eqb, not-false}
 use lib.Dec.{T, eqb}
 use lib.ListN.{length, getD}
-use Rattle.surface.specs.Lists.{some}
+use Rattle.lists.specs.Lists.{some}
+use Rattle.lists.proofs.TestLaws.{neither-of}
 
 -- ---- two tests joined by "or" or by "and"
-
--- neither holds
-pub or-false : (a b : Bool) → (a || b) ≡ false → (a ≡ false) × (b ≡ false)
-or-false false b e = (refl, e)
-or-false true b e = (e, cc)
 
 pub neither : {a b : Bool} → a ≡ false → b ≡ false → (a || b) ≡ false
 neither e g = rw (e, g)
@@ -58,8 +54,8 @@ module _ {A : Type 0} (test : A → Bool) (d : A) where
   -- none passes exactly where each fails
   pub each-fails : (xs : List A) → some test xs ≡ false → (k : ℕ) → k < length xs → test (getD xs k d) ≡ false
   unfolding some
-  each-fails (x ∷ xs) e zero h = or-false (test x) _ e .0
-  each-fails (x ∷ xs) e (suc k) h = each-fails xs (or-false (test x) _ e .1) k (le-of-suc-le-suc h)
+  each-fails (x ∷ xs) e zero h = neither-of (test x) _ e .0
+  each-fails (x ∷ xs) e (suc k) h = each-fails xs (neither-of (test x) _ e .1) k (le-of-suc-le-suc h)
 
   pub none-passes : (xs : List A) → ((k : ℕ) → k < length xs → test (getD xs k d) ≡ false) → some test xs ≡ false
   unfolding some

@@ -5,13 +5,15 @@ use borrow.Author.Tests.{ltb-false, le-ltb, not-false}
 use lib.Dec.{leb}
 use lib.ListN.{length}
 use lib.Ieee.{nan, le, eq}
-use Rattle.surface.specs.Lists.{some}
-use Rattle.surface.specs.Faces.{facesOf}
-use Rattle.checks.specs.declared.Verdict.{Verdict}
-use Rattle.checks.specs.declared.Verdict.the-variants.{Refused, Copied, Admitted}
-use Rattle.checks.specs.Verdicts.{Input, pointsIn, facesIn, zeroFloat, oneFloat, uneven, large, short, empty, badRatio, badLimit, badCoordinate, pick, contentsVerdict, verdictOf}
+use Rattle.lists.specs.Lists.{some}
+use Rattle.walk.specs.Faces.{facesOf}
+use Rattle.meaning.specs.declared.Verdict.{Verdict}
+use Rattle.meaning.specs.declared.Verdict.the-variants.{Refused, Copied, Admitted}
+use Rattle.meaning.specs.Input.{Input, pointsIn, facesIn}
+use Rattle.meaning.specs.Answers.{zeroFloat, oneFloat, uneven, large, short, empty, badRatio, badLimit, badCoordinate, pick, contentsVerdict, verdictOf}
 use Rattle.checks.specs.Facts.{Sized, Copiable, Admissible}
-use Rattle.checks.proofs.TestLaws.{or-false, neither, and-true, both, by-three, even-threes, above-zero, not-zero, holds, is-true, each-fails, none-passes}
+use Rattle.lists.proofs.TestLaws.{neither-of}
+use Rattle.checks.proofs.TestLaws.{neither, and-true, both, by-three, even-threes, above-zero, not-zero, holds, is-true, each-fails, none-passes}
 use Rattle.checks.proofs.OrderLaws.{decides, goes-on, past}
 use Rattle.checks.proofs.FaceVerdictLaws.{admits, copies, faces-proper-of, faces-admitted, faces-not-copied}
 
@@ -58,13 +60,13 @@ decided-late i p =
 -- none of 1 to 7 holds exactly where the input is sized
 sized-of : (i : Input) {r : Verdict} → PassedSix i r → some (badCoordinate (i .bound)) (i .points) ≡ false → Sized i
 sized-of i p seven =
-    let lengths = or-false _ _ (p .one) in
-    let limits = or-false _ _ (p .two) in
-    let f64s = or-false _ _ (p .three) in
-    let f32s = or-false _ _ (f64s .0) in
-    let u32s = or-false _ _ (f32s .0) in
-    let outputs = or-false _ _ (u32s .0) in
-    let counts = or-false _ _ (p .four) in
+    let lengths = neither-of _ _ (p .one) in
+    let limits = neither-of _ _ (p .two) in
+    let f64s = neither-of _ _ (p .three) in
+    let f32s = neither-of _ _ (f64s .0) in
+    let u32s = neither-of _ _ (f32s .0) in
+    let outputs = neither-of _ _ (u32s .0) in
+    let counts = neither-of _ _ (p .four) in
     let ratio = and-true (le zeroFloat (i .ratio)) (le (i .ratio) oneFloat) (not-false _ (p .five)) in
     record {
       points-by-three = by-three _ (lengths .0);

@@ -6,10 +6,11 @@ use mathlib.Core.Bool.{Bool, true, false, not, cond}
 use lib.Dec.{T}
 use lib.ListN.{length, getD}
 use lib.Ieee.{nan, le, eq}
-use Rattle.surface.specs.declared.Face.{Face}
-use Rattle.surface.specs.Lists.{every}
-use Rattle.surface.specs.Faces.{proper, facesOf}
-use Rattle.checks.specs.Verdicts.{Input, pointsIn, facesIn, zeroFloat, oneFloat, badLimit, badCoordinate, outside}
+use Rattle.walk.specs.declared.Face.{Face}
+use Rattle.lists.specs.Lists.{every}
+use Rattle.walk.specs.Faces.{proper, facesOf}
+use Rattle.meaning.specs.Input.{Input, pointsIn, facesIn}
+use Rattle.meaning.specs.Answers.{zeroFloat, oneFloat, badLimit, badCoordinate, outside}
 
 -- none of 1 to 7 holds
 pub record Sized (i : Input) : Type 0 where

@@ -1,3 +1,2 @@
--- Which inputs are refused, by number and place, and what is known of the others.
-pub mod Verdicts
+-- What is known of an input once its verdict is known.
 pub mod Facts

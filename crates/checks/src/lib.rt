@@ -3,26 +3,13 @@
 ghost use mathlib.Core.Path.{_≡_};
 ghost use Prim.Native.Nat.{_+_, _*_, _/_, _≤_};
 ghost use lib.ListN.{length};
-ghost use Rattle.surface.specs.Faces.{facesOf};
-ghost use Rattle.checks.specs.Verdicts.{uneven, large, short, empty, badRatio, badLimit, badCoordinate, firstOf, outside, doubled, faceAt, faceVerdict, contentsVerdict, verdictOf};
+ghost use Rattle.walk.specs.Faces.{facesOf, faceAt};
+ghost use Rattle.meaning.specs.Answers.{uneven, large, short, empty, badRatio, badLimit, badCoordinate, outside, doubled, faceVerdict, contentsVerdict, verdictOf};
+ghost use Rattle.lists.specs.Lists.{firstOf};
+use meaning::Rooms;
+use meaning::Verdict;
 use placement::Limit;
-use surface::Face;
-
-// What an input is: refused by number and place, copied as it is (ratio zero), or admitted to the walk.
-pub enum Verdict {
-    Refused(u32, u32),
-    Copied,
-    Admitted,
-}
-
-// How many cells each lent buffer has: the two outputs, and the work memory of each type.
-pub struct Rooms {
-    pub points: usize,
-    pub faces: usize,
-    pub u32s: usize,
-    pub f32s: usize,
-    pub f64s: usize,
-}
+use walk::Face;
 
 // 1: a list's length is no multiple of 3.
 fn is_uneven(points: usize, faces: usize) -> bool

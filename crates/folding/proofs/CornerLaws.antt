@@ -8,11 +8,11 @@ use mathlib.Core.List.{List}
 use mathlib.Core.Bool.{true, _&&_}
 use lib.Dec.{eqb}
 use borrow.Author.Tests.{eqb-true, eqb-false, eq-eqb, ne-eqb}
-use Rattle.surface.specs.Faces.{holds, proper}
-use Rattle.surface.proofs.TestLaws.{by-test, clash}
-use Rattle.surface.proofs.FaceLaws.{Corners, corners, at-corner, holds-a, holds-b, holds-c}
-use Rattle.mesh.specs.Memory.{corner, faceAt}
-use Rattle.folding.specs.Steps.{cornerOf}
+use Rattle.walk.specs.Faces.{holds, proper, faceAt}
+use Rattle.lists.proofs.TestLaws.{by-test, clash}
+use Rattle.walk.proofs.FaceLaws.{Corners, corners, at-corner, holds-a, holds-b, holds-c}
+use Rattle.memory.specs.Memory.{corner}
+use Rattle.folding.specs.Contracts.Steps.{cornerOf}
 
 -- a corner of a slot is its first, second or third
 three : (P : ℕ → Type 0) (k c : ℕ) → c / 3 ≡ k → P (3 * k) → P (3 * k + 1) → P (3 * k + 2) → P c

@@ -9,24 +9,26 @@ use mathlib.Core.Bool.{Bool, true, false, not, _&&_, _||_, cond, and-false}
 use lib.Dec.{ltb, eqb}
 use lib.ListN.{set}
 use borrow.Author.Tests.{eqb-true, ne-eqb, lt-ltb, ltb-true, le-ltb}
-use Rattle.surface.specs.declared.Face.{Face}
-use Rattle.surface.specs.Lists.{count, those, every, some, below}
-use Rattle.surface.specs.Faces.{holds, both, renamed, renamedFace, proper}
-use Rattle.surface.specs.Folding.{foldedFaces}
-use Rattle.surface.proofs.TestLaws.{by-test, left-of, right-of}
-use Rattle.surface.proofs.ListLaws.{every-head, every-tail}
-use Rattle.surface.proofs.SumLaws.{every-from, every-implies, some-count, length-below, getD-below, sum-pick, sum-same}
-use Rattle.surface.proofs.FaceLaws.{renamed-proper}
-use Rattle.mesh.specs.Memory.{corner, first, lives, faceAt, liveFaces, But}
-use Rattle.mesh.specs.Chains.{Chains, Tidy}
-use Rattle.mesh.specs.Around.{slots, liveAt, Gathered}
-use Rattle.mesh.proofs.Frames.{but-then, but-set, but-widen}
+use Rattle.walk.specs.declared.Face.{Face}
+use Rattle.lists.specs.Lists.{count, those, every, some, below, stretch}
+use Rattle.walk.specs.Faces.{holds, both, renamed, renamedFace, proper, faceAt}
+use Rattle.walk.specs.Fold.{foldedFaces}
+use Rattle.lists.proofs.TestLaws.{by-test, left-of, right-of, flag-le}
+use Rattle.lists.proofs.ListLaws.{every-head, every-tail}
+use Rattle.lists.proofs.SumLaws.{every-from, every-implies, some-count, length-below, getD-below, sum-pick, sum-same}
+use Rattle.walk.proofs.FaceLaws.{renamed-proper}
+use Rattle.memory.specs.Memory.{corner, first, lives, liveFaces}
+use Rattle.lists.specs.Frames.{But}
+use Rattle.mesh.specs.Contracts.Chains.{Chains, Tidy}
+use Rattle.mesh.specs.Contracts.Around.{Gathered}
+use Rattle.memory.specs.Memory.{liveAt}
+use Rattle.lists.proofs.FrameLaws.{but-then, but-set, but-widen}
 use Rattle.mesh.proofs.ChainLaws.{chains-keep, chains-listed, chains-drop}
-use Rattle.mesh.proofs.TestLaws.{cond-swap, cond-most, cond-and}
-use Rattle.mesh.proofs.Sums.{sum-same as sum-same-below}
+use Rattle.lists.proofs.CondLaws.{cond-swap, cond-and}
+use Rattle.lists.proofs.BelowSums.{sum-same-below as sum-same-below}
 use Rattle.mesh.proofs.AroundLaws.{gathered-sums}
-use Rattle.folding.specs.Steps.{inTurn, killed, relisted}
-use Rattle.folding.specs.Folds.{FacesFolded}
+use Rattle.folding.specs.Contracts.Steps.{inTurn, killed, relisted}
+use Rattle.folding.specs.Contracts.Folds.{FacesFolded}
 use Rattle.folding.proofs.TurnLaws.{turn-but, slots-but}
 use Rattle.folding.proofs.KillLaws.{killed-but, kill-lives}
 use Rattle.folding.proofs.CornerLaws.{corner-same, corner-found}
@@ -36,23 +38,23 @@ use Rattle.folding.proofs.RelistLaws.{Relisted, Once, picks, relisted-a
 
 module _ {v f : ℕ} {w : List ℕ} {x base n : ℕ} (g : Gathered v f w x base n) where
   -- its slots are slots
-  pub gathered-inside : every (λ k. ltb k f) (slots w base n) ≡ true
+  pub gathered-inside : every (λ k. ltb k f) (stretch w base n) ≡ true
   gathered-inside =
-      every-implies (λ k. ltb k f && liveAt f w x k) (λ k. ltb k f) (λ k h. left-of (ltb k f) (liveAt f w x k) h) (slots w base n) (g .slots-live)
+      every-implies (λ k. ltb k f && liveAt f w x k) (λ k. ltb k f) (λ k h. left-of (ltb k f) (liveAt f w x k) h) (stretch w base n) (g .slots-live)
 
   -- a slot is in it once, if it is one and its face is live and holds the point
-  times : (k : ℕ) → count (λ j. eqb j k) (slots w base n) ≡ cond (ltb k f) (cond (liveAt f w x k) 1 0) 0
+  times : (k : ℕ) → count (λ j. eqb j k) (stretch w base n) ≡ cond (ltb k f) (cond (liveAt f w x k) 1 0) 0
   times k =
       g .sums (λ j. cond (eqb j k) 1 0)
       ∙ sum-same-below _ _ f (λ j m. cond-swap (liveAt f w x j) (eqb j k) 1)
       ∙ sum-pick (λ j. cond (liveAt f w x j) 1 0) k f
 
-  gathered-once : Once (slots w base n)
+  gathered-once : Once (stretch w base n)
   gathered-once k =
-      by-test (ltb k f) (λ e. rw (times k, e) (cond-most (liveAt f w x k))) (λ e. rw (times k, e) (omega arith))
+      by-test (ltb k f) (λ e. rw (times k, e) (flag-le (liveAt f w x k))) (λ e. rw (times k, e) (omega arith))
 
-  gathered-is : (k : ℕ) → k < f → some (λ j. eqb j k) (slots w base n) ≡ liveAt f w x k
-  gathered-is k l = some-count (λ j. eqb j k) (slots w base n) ∙ rw (times k, lt-ltb k f l) (counted (liveAt f w x k))
+  gathered-is : (k : ℕ) → k < f → some (λ j. eqb j k) (stretch w base n) ≡ liveAt f w x k
+  gathered-is k l = some-count (λ j. eqb j k) (stretch w base n) ∙ rw (times k, lt-ltb k f l) (counted (liveAt f w x k))
     where
       counted : (b : Bool) → ltb 0 (cond b 1 0) ≡ b
       counted true = lt-ltb 0 1 (omega arith)
@@ -99,18 +101,18 @@ kill-both true a b = refl
 kill-both false a b = refl
 
 pub dropped : {v f : ℕ} {w : List ℕ} {keep remove near n : ℕ} {w₁ w₂ w₃ : List ℕ} (t : Tidy v f w) → keep < v → remove < v →
-    Gathered v f w keep near n → w₁ ≡ inTurn (killed f remove) (slots w near n) w →
+    Gathered v f w keep near n → w₁ ≡ inTurn (killed f remove) (stretch w near n) w →
     w₂ ≡ set w₁ (7 * f + keep) 0 → w₃ ≡ set w₂ (7 * f + remove) 0 → Dropped v f w keep remove (t .listed) w₃
 dropped {v} {f} {w} {keep} {remove} {near} {n} {w₁} {w₂} {w₃} t keep-v remove-v g killing first-drop then-drop =
     let room = t .room in
     let inside = gathered-inside g in
-    let but₁ : But (3 * f) (4 * f) w w₁ = rw killing (turn-but (killed f remove) f (killed-but f remove) (slots w near n) w inside) in
+    let but₁ : But (3 * f) (4 * f) w w₁ = rw killing (turn-but (killed f remove) f (killed-but f remove) (stretch w near n) w inside) in
     let but₂ : But (7 * f) (7 * f + v) w₁ w₂ = rw first-drop (but-set (7 * f) (7 * f + v) w₁ (7 * f + keep) 0 (omega arith) (omega arith)) in
     let but₃ : But (7 * f) (7 * f + v) w₂ w₃ = rw then-drop (but-set (7 * f) (7 * f + v) w₂ (7 * f + remove) 0 (omega arith) (omega arith)) in
     let long₁ = but₁ .same-length in
     let long₂ = but₂ .same-length in
-    let after : (k : ℕ) → k < f → lives f w₁ k ≡ (lives f w k && not (some (λ j. eqb j k) (slots w near n) && holds remove (faceAt w k))) =
-    λ k l. rw killing (kill-lives f remove (slots w near n) w inside (omega arith) k l) in
+    let after : (k : ℕ) → k < f → lives f w₁ k ≡ (lives f w k && not (some (λ j. eqb j k) (stretch w near n) && holds remove (faceAt w k))) =
+    λ k l. rw killing (kill-lives f remove (stretch w near n) w inside (omega arith) k l) in
     let chains₁ : Chains v f w₁ (t .listed) =
     chains-keep v f w w₁ (t .listed) (t .listed)
     (λ c l. but₁ .over (4 * f + c) (omega arith)) (λ x l. but₁ .over (7 * f + x) (omega arith)) (λ c l x. rw (but₁ .under c (omega arith)))
@@ -137,7 +139,7 @@ dropped {v} {f} {w} {keep} {remove} {near} {n} {w₁} {w₂} {w₃} t keep-v rem
 
 pub picks-are : {v f : ℕ} {w : List ℕ} {x base n : ℕ} (u : List ℕ) → Tidy v f w → Gathered v f w x base n →
     ((c : ℕ) → c < 3 * f → corner u c ≡ corner w c) → ((k : ℕ) → k < f → lives f u k ≡ true → lives f w k ≡ true) →
-    (c : ℕ) → c < 3 * f → picks f x (slots w base n) u c ≡ (lives f u (c / 3) && eqb (corner w c) x)
+    (c : ℕ) → c < 3 * f → picks f x (stretch w base n) u c ≡ (lives f u (c / 3) && eqb (corner w c) x)
 picks-are {v} {f} {w} {x} {base} {n} u t g corners alive c l =
     by-test (lives f u (c / 3))
     (λ e.
@@ -145,21 +147,21 @@ picks-are {v} {f} {w} {x} {base} {n} u t g corners alive c l =
     let found = corner-found v w x c (t .faces-proper (c / 3) (omega arith) lived) in
     let same = corner-same w u (c / 3) x (λ d at. corners d (omega arith)) in
     rw (gathered-is g (c / 3) (omega arith), e, lived, same) found)
-    (λ e. rw e (and-false (some (λ k. eqb k (c / 3)) (slots w base n))))
+    (λ e. rw e (and-false (some (λ k. eqb k (c / 3)) (stretch w base n))))
 
 -- the list stays while only faces and links change
 pub inside-still : {v f hi : ℕ} {w u : List ℕ} {x base n : ℕ} → Gathered v f w x base n → But 0 hi w u → hi ≤ base →
-    every (λ k. ltb k f) (slots u base n) ≡ true
+    every (λ k. ltb k f) (stretch u base n) ≡ true
 inside-still {v} {f} {hi} {w} {u} {x} {base} {n} g but above = rw (slots-but base n but above) (gathered-inside g)
 
 -- so these are the corners that are listed again
 pub again : {v f new : ℕ} {w u u' : List ℕ} {x base n : ℕ} → Tidy v f w → new < v → Gathered v f w x base n → But 0 (7 * f + v) w u → 7 * f + v ≤ base →
     ((c : ℕ) → c < 3 * f → corner u c ≡ corner w c) → ((k : ℕ) → k < f → lives f u k ≡ true → lives f w k ≡ true) →
-    u' ≡ inTurn (relisted f x new) (slots u base n) u → Relisted v f new (λ c. lives f u (c / 3) && eqb (corner w c) x) u u'
+    u' ≡ inTurn (relisted f x new) (stretch u base n) u → Relisted v f new (λ c. lives f u (c / 3) && eqb (corner w c) x) u u'
 again {v} {f} {new} {w} {u} {u'} {x} {base} {n} t new-v g but above corners alive e =
     relisted-as (picks-are u t g corners alive)
     (rw (e, slots-but base n but above)
-    (relisted-all new-v x (slots w base n) u (gathered-inside g) (gathered-once g) (omega (arith, but .same-length, t .room))))
+    (relisted-all new-v x (stretch w base n) u (gathered-inside g) (gathered-once g) (omega (arith, but .same-length, t .room))))
 
 -- a corner that is put where it is
 stays : (b : Bool) (x y : ℕ) → cond (b && eqb x y) y x ≡ x
@@ -173,13 +175,13 @@ module _ {v f : ℕ} {w : List ℕ} {keep remove : ℕ} {w₃ : List ℕ} (t : T
   lived-then k l e = left-of (lives f w k) (not (both keep remove (faceAt w k))) (sym (d .lives-on k l) ∙ e)
 
   pub near-again : {near n : ℕ} {w₄ : List ℕ} → Gathered v f w keep near n → 7 * f + v ≤ near →
-      w₄ ≡ inTurn (relisted f keep keep) (slots w₃ near n) w₃ →
+      w₄ ≡ inTurn (relisted f keep keep) (stretch w₃ near n) w₃ →
       Relisted v f keep (λ c. lives f w₃ (c / 3) && eqb (corner w c) keep) w₃ w₄
   near-again g above = again t keep-v g (d .but) above (d .corners) lived-then
 
   pub far-again : {far m : ℕ} {w₄ w₅ : List ℕ} → Gathered v f w remove far m → 7 * f + v ≤ far →
       Relisted v f keep (λ c. lives f w₃ (c / 3) && eqb (corner w c) keep) w₃ w₄ →
-      w₅ ≡ inTurn (relisted f remove keep) (slots w₄ far m) w₄ →
+      w₅ ≡ inTurn (relisted f remove keep) (stretch w₄ far m) w₄ →
       Relisted v f keep (λ c. lives f w₃ (c / 3) && eqb (corner w c) remove) w₄ w₅
   far-again {far} {m} {w₄} {w₅} g above near e =
       relisted-as (λ c l. rw (near .lives-same (c / 3) (omega arith)))
@@ -258,7 +260,7 @@ module _ {v f : ℕ} {w : List ℕ} {keep remove : ℕ} {w₃ w₄ w₅ : List �
       (d .chains))
 
   pub folded : {near-at n gone : ℕ} → Gathered v f w keep near-at n →
-      gone ≡ count (λ k. holds remove (faceAt w k)) (slots w near-at n) → FacesFolded v f w keep remove w₅ gone
+      gone ≡ count (λ k. holds remove (faceAt w k)) (stretch w near-at n) → FacesFolded v f w keep remove w₅ gone
   unfolding liveFaces foldedFaces
   folded {near-at} {n} {gone} g counting =
       let but : But 0 (7 * f + v) w w₅ = but-then (d .but) (but-then (near .but) (far .but)) in

@@ -11,17 +11,17 @@ use lib.Dec.{ltb, eqb}
 use lib.ListN.{length, getD}
 use lib.Seq.{getD-set-same, getD-set-other}
 use borrow.Author.Tests.{ltb-true, eqb-true, eqb-false}
-use Rattle.surface.specs.declared.Face.{Face}
-use Rattle.surface.specs.Lists.{sum, count, every, some, below}
-use Rattle.surface.specs.Faces.{holds}
-use Rattle.surface.proofs.TestLaws.{by-test}
-use Rattle.surface.proofs.ListLaws.{every-head, every-tail}
-use Rattle.mesh.specs.Memory.{lives, faceAt, But}
-use Rattle.mesh.specs.Around.{slots}
-use Rattle.mesh.proofs.Sums.{sum-next}
+use Rattle.walk.specs.declared.Face.{Face}
+use Rattle.lists.specs.Lists.{sum, count, every, some, below, stretch}
+use Rattle.walk.specs.Faces.{holds, faceAt}
+use Rattle.lists.proofs.TestLaws.{by-test}
+use Rattle.lists.proofs.ListLaws.{every-head, every-tail}
+use Rattle.memory.specs.Memory.{lives}
+use Rattle.lists.specs.Frames.{But}
+use Rattle.lists.proofs.SumLaws.{sum-below}
 use Rattle.mesh.proofs.AroundLaws.{sum-slots}
-use Rattle.mesh.proofs.Frames.{but-refl, but-set}
-use Rattle.folding.specs.Steps.{inTurn, killed}
+use Rattle.lists.proofs.FrameLaws.{but-refl, but-set}
+use Rattle.folding.specs.Contracts.Steps.{inTurn, killed}
 
 -- the face in a slot, where only flags change
 pub face-flags : {f hi : ℕ} {w w' : List ℕ} → But (3 * f) hi w w' → (k : ℕ) → k < f → faceAt w' k ≡ faceAt w k
@@ -76,22 +76,22 @@ module _ (f x : ℕ) where
 
   -- one more of the list is counted
   pub kill-count : {w₀ w : List ℕ} {gone r : ℕ} (list i : ℕ) → But (3 * f) (4 * f) w₀ w → getD w (list + i) 0 ≡ getD w₀ (list + i) 0 →
-      getD w (list + i) 0 < f → gone ≡ count (λ k. holds x (faceAt w₀ k)) (slots w₀ list i) →
+      getD w (list + i) 0 < f → gone ≡ count (λ k. holds x (faceAt w₀ k)) (stretch w₀ list i) →
       r ≡ cond (holds x (faceAt w (getD w (list + i) 0))) 1 0 →
-      gone + r ≡ count (λ k. holds x (faceAt w₀ k)) (slots w₀ list (i + 1))
+      gone + r ≡ count (λ k. holds x (faceAt w₀ k)) (stretch w₀ list (i + 1))
   kill-count {w₀} {w} {gone} {r} list i but slot inside counted one =
       let g : ℕ → ℕ = λ k. cond (holds x (faceAt w₀ k)) 1 0 in
       let here : r ≡ g (getD w₀ (list + i) 0) =
       one ∙ ap (λ (p : Face). cond (holds x p) 1 0) (face-flags but (getD w (list + i) 0) inside) ∙ ap g slot in
       rw add-one
-      (omega (arith, sum-slots g w₀ list i, sum-slots g w₀ list (suc i), sum-next (λ j. g (getD w₀ (list + j) 0)) i))
+      (omega (arith, sum-slots g w₀ list i, sum-slots g w₀ list (suc i), sum-below (λ j. g (getD w₀ (list + j) 0)) i))
 
   -- none of the list is counted, and all are
-  pub kill-none : (w : List ℕ) (list : ℕ) → 0 ≡ count (λ k. holds x (faceAt w k)) (slots w list 0)
+  pub kill-none : (w : List ℕ) (list : ℕ) → 0 ≡ count (λ k. holds x (faceAt w k)) (stretch w list 0)
   unfolding sum below
   kill-none w list = refl
 
   pub kill-counted : (w : List ℕ) (list : ℕ) {i n gone : ℕ} → i ≤ n → n ≤ i →
-      gone ≡ count (λ k. holds x (faceAt w k)) (slots w list i) → gone ≡ count (λ k. holds x (faceAt w k)) (slots w list n)
+      gone ≡ count (λ k. holds x (faceAt w k)) (stretch w list i) → gone ≡ count (λ k. holds x (faceAt w k)) (stretch w list n)
   kill-counted w list {i} {n} {gone} most least =
-      subst (λ (j : ℕ). gone ≡ count (λ k. holds x (faceAt w k)) (slots w list j)) (le-antisymm most least)
+      subst (λ (j : ℕ). gone ≡ count (λ k. holds x (faceAt w k)) (stretch w list j)) (le-antisymm most least)

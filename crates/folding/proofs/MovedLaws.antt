@@ -12,15 +12,15 @@ use Rattle.placement.specs.declared.Limit.{Limit}
 use Rattle.placement.specs.declared.pair.Vertex.{Vertex}
 use Rattle.placement.specs.Choices.{kindOf}
 use Rattle.placement.specs.Pairs.{pairPlace, pairQuadric}
-use Rattle.surface.specs.Lists.{below}
-use Rattle.surface.specs.Folding.{foldedMesh}
-use Rattle.mesh.specs.Memory.{kind}
-use Rattle.vertices.specs.Memory.{quadricAt, vertexAt, withPoint, withQuadric, meshOf}
-use Rattle.vertices.specs.Rules.{rulesOf, mergedVertex}
-use Rattle.vertices.proofs.MemoryLaws.{point-length, point-rest, quadric-length, quadric-rest}
-use Rattle.vertices.proofs.BelowLaws.{each-same}
-use Rattle.vertices.proofs.MeshLaws.{mesh-of-parts, mesh-point, mesh-moved}
-use Rattle.folding.specs.Folds.{FacesFolded, MeshFolded}
+use Rattle.lists.specs.Lists.{below}
+use Rattle.walk.specs.Fold.{foldedMesh}
+use Rattle.memory.specs.Memory.{kind}
+use Rattle.memory.specs.Points.{quadricAt, vertexAt, withPoint, withQuadric, meshOf}
+use Rattle.meaning.specs.Arithmetic.{rulesOf, mergedVertex}
+use Rattle.memory.proofs.PointLaws.{point-length, point-rest, quadric-length, quadric-rest}
+use Rattle.lists.proofs.EachLaws.{each-same}
+use Rattle.memory.proofs.MeshLaws.{mesh-of-parts, mesh-point, mesh-moved}
+use Rattle.folding.specs.Contracts.Folds.{FacesFolded, MeshFolded}
 
 module _ {v f keep remove gone : ℕ} {w w' : List ℕ} (p q : List Float) (keep-v : keep < v) (remove-v : remove < v)
     (p-long : 3 * v ≤ length p) (q-long : 10 * v ≤ length q) (h : FacesFolded v f w keep remove w' gone)

@@ -9,15 +9,16 @@ use lib.Dec.{ltb, eqb}
 use lib.ListN.{length, set, length-set}
 use lib.Seq.{getD-set-same, getD-set-other}
 use borrow.Author.Tests.{ltb-true, le-ltb, eqb-true, eqb-false, eq-eqb, ne-eqb}
-use Rattle.surface.specs.Lists.{sum, count, every, some}
-use Rattle.surface.proofs.TestLaws.{by-test, clash, false-of, left-of, right-of}
-use Rattle.surface.proofs.ListLaws.{every-head, every-tail}
-use Rattle.surface.proofs.SumLaws.{some-count}
-use Rattle.mesh.specs.Memory.{corner, first, lives, But}
-use Rattle.mesh.specs.Chains.{Chains}
-use Rattle.mesh.proofs.Frames.{but-refl, but-then, but-set}
+use Rattle.lists.specs.Lists.{sum, count, every, some}
+use Rattle.lists.proofs.TestLaws.{by-test, clash, false-of, left-of, right-of}
+use Rattle.lists.proofs.ListLaws.{every-head, every-tail}
+use Rattle.lists.proofs.SumLaws.{some-count}
+use Rattle.memory.specs.Memory.{corner, first, lives}
+use Rattle.lists.specs.Frames.{But}
+use Rattle.mesh.specs.Contracts.Chains.{Chains}
+use Rattle.lists.proofs.FrameLaws.{but-refl, but-then, but-set}
 use Rattle.mesh.proofs.ChainLaws.{chains-listed, chains-rename, chains-push}
-use Rattle.folding.specs.Steps.{inTurn, cornerOf, moved, relisted}
+use Rattle.folding.specs.Contracts.Steps.{inTurn, cornerOf, moved, relisted}
 use Rattle.folding.proofs.CornerLaws.{corner-slot, corner-same}
 
 -- The picked corners got the point new. If they were in no chain they are in its chain now, and the other chains are as they were.

@@ -10,21 +10,20 @@ use mathlib.Core.Bool.{true}
 use lib.Dec.{ltb}
 use lib.ListN.{getD}
 use borrow.Author.Tests.{ltb-true}
-use Rattle.surface.specs.Lists.{every, below}
-use Rattle.surface.proofs.ListLaws.{every-head, every-tail}
-use Rattle.mesh.specs.Memory.{But}
-use Rattle.mesh.specs.Around.{slots}
-use Rattle.mesh.proofs.Frames.{but-refl, but-then}
-use Rattle.mesh.proofs.BelowLaws.{every-at, map-same}
-use Rattle.folding.specs.Steps.{inTurn}
+use Rattle.lists.specs.Lists.{every, below, stretch}
+use Rattle.lists.proofs.ListLaws.{every-head, every-tail}
+use Rattle.lists.specs.Frames.{But}
+use Rattle.lists.proofs.FrameLaws.{but-refl, but-then}
+use Rattle.lists.proofs.BelowLaws.{every-at, map-same}
+use Rattle.folding.specs.Contracts.Steps.{inTurn}
 
 -- a list of slots, one more
-slots-more : (w : List ℕ) (list i : ℕ) → slots w list (i + 1) ≡ slots w list i ++ (getD w (list + i) 0 ∷ [])
+slots-more : (w : List ℕ) (list i : ℕ) → stretch w list (i + 1) ≡ stretch w list i ++ (getD w (list + i) 0 ∷ [])
 unfolding below
 slots-more w list i = rw add-one (map-append (λ j. getD w (list + j) 0) (below i) (i ∷ []))
 
 -- it stays where its cells stay
-pub slots-but : {lo hi : ℕ} {w w' : List ℕ} (list n : ℕ) → But lo hi w w' → hi ≤ list → slots w' list n ≡ slots w list n
+pub slots-but : {lo hi : ℕ} {w w' : List ℕ} (list n : ℕ) → But lo hi w w' → hi ≤ list → stretch w' list n ≡ stretch w list n
 slots-but {lo} {hi} {w} {w'} list n but above =
     map-same (λ i. getD w' (list + i) 0) (λ i. getD w (list + i) 0) n (λ i l. but .over (list + i) (omega arith))
 
@@ -47,7 +46,7 @@ module _ (step : ℕ → List ℕ → List ℕ) where
 -- the first i slots of a list have had their turn, and only cells from lo up to hi have changed
 pub record Turning (step : ℕ → List ℕ → List ℕ) (lo hi : ℕ) (w₀ : List ℕ) (list n i : ℕ) (w : List ℕ) : Type 0 where
   pub most : i ≤ n
-  pub so-far : w ≡ inTurn step (slots w₀ list i) w₀
+  pub so-far : w ≡ inTurn step (stretch w₀ list i) w₀
   pub but : But lo hi w₀ w
 
 module _ {step : ℕ → List ℕ → List ℕ} {lo hi : ℕ} {w₀ : List ℕ} {list n : ℕ} where
@@ -60,7 +59,7 @@ module _ {step : ℕ → List ℕ → List ℕ} {lo hi : ℕ} {w₀ : List ℕ} 
   pub turn-slot : {i : ℕ} {w : List ℕ} → hi ≤ list → Turning step lo hi w₀ list n i w → getD w (list + i) 0 ≡ getD w₀ (list + i) 0
   turn-slot {i} {w} above h = h .but .over (list + i) (omega arith)
 
-  pub turn-inside : {f i : ℕ} {w : List ℕ} → hi ≤ list → i < n → every (λ k. ltb k f) (slots w₀ list n) ≡ true →
+  pub turn-inside : {f i : ℕ} {w : List ℕ} → hi ≤ list → i < n → every (λ k. ltb k f) (stretch w₀ list n) ≡ true →
       Turning step lo hi w₀ list n i w → getD w (list + i) 0 < f
   turn-inside {f} {i} {w} above l all h =
       rw (turn-slot above h) (ltb-true (getD w₀ (list + i) 0) f (every-at (λ k. ltb k f) (λ j. getD w₀ (list + j) 0) n all i l))
@@ -73,10 +72,10 @@ module _ {step : ℕ → List ℕ → List ℕ} {lo hi : ℕ} {w₀ : List ℕ} 
     so-far =
         same
         ∙ rw (turn-slot above h) (ap (step (getD w₀ (list + i) 0)) (h .so-far))
-        ∙ sym (ap (λ (ks : List ℕ). inTurn step ks w₀) (slots-more w₀ list i) ∙ turn-more step (slots w₀ list i) (getD w₀ (list + i) 0) w₀);
+        ∙ sym (ap (λ (ks : List ℕ). inTurn step ks w₀) (slots-more w₀ list i) ∙ turn-more step (stretch w₀ list i) (getD w₀ (list + i) 0) w₀);
     but = but-then (h .but) but;
   }
 
   -- all have had it
-  pub turn-end : {i : ℕ} {w : List ℕ} → n ≤ i → Turning step lo hi w₀ list n i w → w ≡ inTurn step (slots w₀ list n) w₀
-  turn-end {i} {w} least h = subst (λ (j : ℕ). w ≡ inTurn step (slots w₀ list j) w₀) (le-antisymm (h .most) least) (h .so-far)
+  pub turn-end : {i : ℕ} {w : List ℕ} → n ≤ i → Turning step lo hi w₀ list n i w → w ≡ inTurn step (stretch w₀ list n) w₀
+  turn-end {i} {w} least h = subst (λ (j : ℕ). w ≡ inTurn step (stretch w₀ list j) w₀) (le-antisymm (h .most) least) (h .so-far)

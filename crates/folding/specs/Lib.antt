@@ -1,3 +1,2 @@
 -- The fold in lent memory.
-pub mod Steps
-pub mod Folds
+pub mod Contracts

@@ -6,10 +6,10 @@ ghost use lib.ListN.{length};
 ghost use lib.Ieee.{Float};
 ghost use Rattle.placement.specs.declared.Limit.{Limit as LimitS};
 ghost use Rattle.placement.specs.Pairs.{pairPlace};
-ghost use Rattle.mesh.specs.Chains.{Tidy};
-ghost use Rattle.mesh.specs.Around.{Gathered};
-ghost use Rattle.vertices.specs.Memory.{vertexAt};
-ghost use Rattle.folding.specs.Folds.{FacesFolded, MeshFolded};
+ghost use Rattle.mesh.specs.Contracts.Chains.{Tidy};
+ghost use Rattle.mesh.specs.Contracts.Around.{Gathered};
+ghost use Rattle.memory.specs.Points.{vertexAt};
+ghost use Rattle.folding.specs.Contracts.Folds.{FacesFolded, MeshFolded};
 
 mod steps;
 
@@ -34,8 +34,8 @@ pub fn fold_faces(
     ensures { λ r. ⌜ FacesFolded v f (now (w .entry)) keep remove (now (w .exit)) r ⌝ }
 {
     let gone = kill(w, f, near, n, remove as u32);
-    mesh::set_first(w, f, keep, 0);
-    mesh::set_first(w, f, remove, 0);
+    memory::set_first(w, f, keep, 0);
+    memory::set_first(w, f, remove, 0);
     relist(w, f, near, n, keep as u32, keep as u32);
     relist(w, f, far, m, remove as u32, keep as u32);
     gone
@@ -61,8 +61,8 @@ pub fn fold_mesh(
 {
     let kept = keep as usize;
     let removed = remove as usize;
-    vertices::set_point(p, kept, place);
-    let sum = vertices::quadric_at(q, kept).sum(vertices::quadric_at(q, removed));
-    vertices::set_quadric(q, kept, sum);
+    memory::set_point(p, kept, place);
+    let sum = memory::quadric_at(q, kept).sum(memory::quadric_at(q, removed));
+    memory::set_quadric(q, kept, sum);
     fold_faces(w, v, f, kept, removed, near, n, far, m)
 }

@@ -4,19 +4,17 @@ ghost use mathlib.Core.Bool.{true, cond};
 ghost use Prim.Native.Nat.{_+_, _*_, _≤_, _<_};
 ghost use lib.Dec.{ltb};
 ghost use lib.ListN.{length};
-ghost use Rattle.surface.specs.Lists.{count, every};
-ghost use Rattle.surface.specs.Faces.{holds};
-ghost use Rattle.mesh.specs.Memory.{faceAt};
-ghost use Rattle.mesh.specs.Around.{slots};
-ghost use Rattle.folding.specs.Steps.{inTurn, killed, cornerOf, moved, relisted};
+ghost use Rattle.lists.specs.Lists.{count, every, stretch};
+ghost use Rattle.walk.specs.Faces.{holds, faceAt};
+ghost use Rattle.folding.specs.Contracts.Steps.{inTurn, killed, cornerOf, moved, relisted};
 
 // Kills the face in a slot if it holds x. Says 1 if it did.
 fn kill_face(w: &mut [u32], f: usize, k: usize, x: u32) -> usize
     requires { ⌜ (k < f) × (4 * f ≤ length (now w)) ⌝ }
     ensures { λ r. ⌜ (now (w .exit) ≡ killed f x k (now (w .entry))) × (r ≡ cond (holds x (faceAt (now (w .entry)) k)) 1 0) ⌝ }
 {
-    if surface::face_holds(x, mesh::face_in(w, f, k)) {
-        mesh::set_live(w, f, k, 0);
+    if walk::face_holds(x, memory::face_in(w, f, k)) {
+        memory::set_live(w, f, k, 0);
         return 1;
     }
     0
@@ -24,8 +22,8 @@ fn kill_face(w: &mut [u32], f: usize, k: usize, x: u32) -> usize
 
 // Kills the faces of a list of slots that hold x. Says how many of the list hold it.
 pub fn kill(w: &mut [u32], f: usize, list: usize, n: usize, x: u32) -> usize
-    requires { ⌜ every (λ k. ltb k f) (slots (now w) list n) ≡ true ⌝ ∗ ⌜ (4 * f ≤ list) × (list + n ≤ length (now w)) ⌝ }
-    ensures { λ r. ⌜ (now (w .exit) ≡ inTurn (killed f x) (slots (now (w .entry)) list n) (now (w .entry))) × (r ≡ count (λ k. holds x (faceAt (now (w .entry)) k)) (slots (now (w .entry)) list n)) ⌝ }
+    requires { ⌜ every (λ k. ltb k f) (stretch (now w) list n) ≡ true ⌝ ∗ ⌜ (4 * f ≤ list) × (list + n ≤ length (now w)) ⌝ }
+    ensures { λ r. ⌜ (now (w .exit) ≡ inTurn (killed f x) (stretch (now (w .entry)) list n) (now (w .entry))) × (r ≡ count (λ k. holds x (faceAt (now (w .entry)) k)) (stretch (now (w .entry)) list n)) ⌝ }
 {
     let mut gone = 0;
     for i in 0..n {
@@ -40,10 +38,10 @@ fn corner_of(w: &[u32], k: usize, x: u32) -> usize
     requires { ⌜ 3 * k + 2 < length (now w) ⌝ }
     ensures { λ r. ⌜ r ≡ cornerOf (now (w .entry)) k x ⌝ }
 {
-    if mesh::corner_at(w, 3 * k) == x {
+    if memory::corner_at(w, 3 * k) == x {
         return 3 * k;
     }
-    if mesh::corner_at(w, 3 * k + 1) == x {
+    if memory::corner_at(w, 3 * k + 1) == x {
         return 3 * k + 1;
     }
     3 * k + 2
@@ -54,7 +52,7 @@ fn move_corner(w: &mut [u32], f: usize, c: usize, new: u32)
     requires { ⌜ (c < 3 * f) × (7 * f + new < length (now w)) × (f ≤ 131072) ⌝ }
     ensures { λ _. ⌜ now (w .exit) ≡ moved f c new (now (w .entry)) ⌝ }
 {
-    mesh::set_corner(w, c, new);
+    memory::set_corner(w, c, new);
     mesh::push_corner(w, f, c, new as usize);
 }
 
@@ -63,7 +61,7 @@ fn relist_face(w: &mut [u32], f: usize, k: usize, old: u32, new: u32)
     requires { ⌜ (k < f) × (7 * f + new < length (now w)) × (f ≤ 131072) ⌝ }
     ensures { λ _. ⌜ now (w .exit) ≡ relisted f old new k (now (w .entry)) ⌝ }
 {
-    if mesh::live_at(w, f, k) == 1 {
+    if memory::live_at(w, f, k) == 1 {
         let c = corner_of(w, k, old);
         move_corner(w, f, c, new);
     }
@@ -71,8 +69,8 @@ fn relist_face(w: &mut [u32], f: usize, k: usize, old: u32, new: u32)
 
 // The same for each slot of a list.
 pub fn relist(w: &mut [u32], f: usize, list: usize, n: usize, old: u32, new: u32)
-    requires { ⌜ every (λ k. ltb k f) (slots (now w) list n) ≡ true ⌝ ∗ ⌜ (7 * f + new < list) × (list + n ≤ length (now w)) × (f ≤ 131072) ⌝ }
-    ensures { λ _. ⌜ now (w .exit) ≡ inTurn (relisted f old new) (slots (now (w .entry)) list n) (now (w .entry)) ⌝ }
+    requires { ⌜ every (λ k. ltb k f) (stretch (now w) list n) ≡ true ⌝ ∗ ⌜ (7 * f + new < list) × (list + n ≤ length (now w)) × (f ≤ 131072) ⌝ }
+    ensures { λ _. ⌜ now (w .exit) ≡ inTurn (relisted f old new) (stretch (now (w .entry)) list n) (now (w .entry)) ⌝ }
 {
     for i in 0..n {
         let k = w[list + i] as usize;

@@ -10,23 +10,26 @@ use Rattle.geometry.specs.declared.Point.{Point}
 use Rattle.placement.specs.declared.Limit.{Limit}
 use Rattle.placement.specs.declared.pair.Vertex.{Vertex}
 use Rattle.placement.specs.Pairs.{pairPlace}
-use Rattle.surface.specs.declared.Face.{Face}
-use Rattle.surface.specs.Lists.{every}
-use Rattle.surface.specs.Faces.{proper, shared, common}
-use Rattle.surface.specs.Folding.{dataOf, mergedOf, movedOf, fairFace, allowed}
-use Rattle.surface.specs.Walk.{pairOf}
-use Rattle.surface.proofs.SumLaws.{by-test, map-same}
-use Rattle.surface.proofs.ListLaws.{every-map}
-use Rattle.surface.proofs.FaceLaws.{corners}
-use Rattle.mesh.specs.Memory.{faceAt, lives, liveFaces, Proper}
-use Rattle.mesh.proofs.TestLaws.{by-test as by-outcome}
-use Rattle.mesh.proofs.Sums.{every-counted, sum-none}
+use Rattle.walk.specs.declared.Face.{Face}
+use Rattle.lists.specs.Lists.{every}
+use Rattle.walk.specs.Faces.{proper, shared, common, faceAt}
+use Rattle.walk.specs.Points.{dataOf, mergedOf}
+use Rattle.walk.specs.FoldTest.{movedOf, fairFace, allowed}
+use Rattle.walk.specs.Pairs.{pairOf}
+use Rattle.lists.proofs.TestLaws.{by-test}
+use Rattle.lists.proofs.SumLaws.{map-same}
+use Rattle.lists.proofs.ListLaws.{every-map}
+use Rattle.walk.proofs.FaceLaws.{corners}
+use Rattle.memory.specs.Memory.{lives, liveFaces, Proper}
+use Rattle.lists.proofs.CondLaws.{by-outcome as by-outcome}
+use Rattle.lists.proofs.BelowSums.{every-counted, sum-none}
 use Rattle.mesh.proofs.AroundLaws.{live-sums}
-use Rattle.vertices.specs.Memory.{pointAt, vertexAt, meshOf}
-use Rattle.vertices.specs.Rules.{mergedVertex, rulesOf}
-use Rattle.vertices.proofs.MeshLaws.{mesh-length, mesh-point}
-use Rattle.foldtest.specs.Fair.{movedAt, fairFaceAt}
-use Rattle.foldtest.specs.Allowed.{allowedAt}
+use Rattle.meaning.specs.Input.{pointAt}
+use Rattle.memory.specs.Points.{vertexAt, meshOf}
+use Rattle.meaning.specs.Arithmetic.{mergedVertex, rulesOf}
+use Rattle.memory.proofs.MeshLaws.{mesh-length, mesh-point}
+use Rattle.foldtest.specs.Contracts.Fair.{movedAt, fairFaceAt}
+use Rattle.foldtest.specs.Contracts.Allowed.{allowedAt}
 
 -- two tests that agree where a third passes, over a list where every one passes that
 every-agree : {A : Type 0} (test other ok : A → Bool) → ((x : A) → ok x ≡ true → test x ≡ other x) →

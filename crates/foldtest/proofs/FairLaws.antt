@@ -5,9 +5,9 @@ use mathlib.Core.Bool.{Bool, true, false, not, _&&_}
 use lib.Ieee.{Float, binary32, mul, lt}
 use Rattle.geometry.specs.declared.Point.{Point}
 use Rattle.geometry.specs.Points.{dot, norm}
-use Rattle.surface.proofs.TestLaws.{clash}
-use Rattle.vertices.specs.Rules.{tiny, hundredth, fairNormals}
-use Rattle.foldtest.specs.Fair.{squashed, turned}
+use Rattle.lists.proofs.TestLaws.{clash}
+use Rattle.meaning.specs.Arithmetic.{tiny, hundredth, fairNormals}
+use Rattle.foldtest.specs.Contracts.Fair.{squashed, turned}
 
 -- two tests, each known by its opposite: the first fails, or the second decides
 first-fails : {r : Bool} (x y : Bool) → r ≡ not x → r ≡ true → false ≡ (x && y)

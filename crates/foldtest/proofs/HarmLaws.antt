@@ -10,16 +10,17 @@ use lib.Ieee.{Float}
 use lib.ListN.{length}
 use borrow.Author.Tests.{ltb-true, ltb-false, eq-eqb, ne-eqb}
 use Rattle.geometry.specs.declared.Point.{Point}
-use Rattle.surface.specs.declared.Face.{Face}
-use Rattle.surface.specs.Lists.{sum, some}
-use Rattle.surface.specs.Faces.{holds, proper}
-use Rattle.surface.proofs.SumLaws.{by-test, sum-same, sum-add, some-count, every-count}
-use Rattle.surface.proofs.FaceLaws.{corners}
-use Rattle.mesh.specs.Memory.{faceAt, liveFaces}
-use Rattle.mesh.specs.Around.{slots, Gathered}
+use Rattle.walk.specs.declared.Face.{Face}
+use Rattle.lists.specs.Lists.{sum, some, stretch}
+use Rattle.walk.specs.Faces.{holds, proper, faceAt}
+use Rattle.lists.proofs.TestLaws.{by-test}
+use Rattle.lists.proofs.SumLaws.{sum-same, sum-add, some-count, every-count}
+use Rattle.walk.proofs.FaceLaws.{corners}
+use Rattle.memory.specs.Memory.{liveFaces}
+use Rattle.mesh.specs.Contracts.Around.{Gathered}
 use Rattle.mesh.proofs.AroundLaws.{gathered-sums}
-use Rattle.foldtest.specs.Fair.{Placed, fairAt, harmed, fairFaceAt}
-use Rattle.foldtest.specs.Allowed.{fairAround}
+use Rattle.foldtest.specs.Contracts.Fair.{Placed, fairAt, harmed, fairFaceAt}
+use Rattle.foldtest.specs.Contracts.Allowed.{fairAround}
 
 -- ---- one face
 
@@ -67,16 +68,16 @@ passing x test faces = sum (λ q. cond (holds x q) (cond (test q) 1 0) 0) faces
 
 -- some listed face passes where the live faces that hold the point and pass are more than none
 some-listed : {v f : ℕ} {w : List ℕ} {x base n : ℕ} → Gathered v f w x base n → (test : Face → Bool) →
-    some (λ k. test (faceAt w k)) (slots w base n) ≡ ltb 0 (passing x test (liveFaces f w))
+    some (λ k. test (faceAt w k)) (stretch w base n) ≡ ltb 0 (passing x test (liveFaces f w))
 some-listed {v} {f} {w} {x} {base} {n} h test =
-    some-count (λ k. test (faceAt w k)) (slots w base n) ∙ ap (ltb 0) (gathered-sums h (λ q. cond (test q) 1 0))
+    some-count (λ k. test (faceAt w k)) (stretch w base n) ∙ ap (ltb 0) (gathered-sums h (λ q. cond (test q) 1 0))
 
 module _ (p : List Float) (place : Point) {v f : ℕ} {w : List ℕ} {keep remove near n far m : ℕ}
     (at-keep : Gathered v f w keep near n) (at-remove : Gathered v f w remove far m) where
   -- no face of either list is harmed just where every live face is fair
   fair-known : {a b : Bool} →
-      a ≡ some (λ k. harmed p keep remove place remove (faceAt w k)) (slots w near n) →
-      b ≡ some (λ k. harmed p keep remove place keep (faceAt w k)) (slots w far m) →
+      a ≡ some (λ k. harmed p keep remove place remove (faceAt w k)) (stretch w near n) →
+      b ≡ some (λ k. harmed p keep remove place keep (faceAt w k)) (stretch w far m) →
       (not a && not b) ≡ fairAround p (liveFaces f w) keep remove place
   unfolding fairFaceAt
   fair-known e d =
@@ -89,13 +90,13 @@ module _ (p : List Float) (place : Point) {v f : ℕ} {w : List ℕ} {keep remov
       ∙ sum-same _ _ (λ q. one-face (holds keep q) (holds remove q) (fairAt p keep remove place q)) (liveFaces f w))
       ∙ sym (every-count (fairFaceAt p keep remove place) (liveFaces f w))
 
-  module _ {a : Bool} (first : a ≡ some (λ k. harmed p keep remove place remove (faceAt w k)) (slots w near n)) where
+  module _ {a : Bool} (first : a ≡ some (λ k. harmed p keep remove place remove (faceAt w k)) (stretch w near n)) where
     -- one of the first list is
     pub not-fair : a ≡ true → false ≡ fairAround p (liveFaces f w) keep remove place
     not-fair t = rw t at (fair-known first refl)
 
     -- none of the first list is, so the second decides
     pub fair-decided : a ≡ false → {b : Bool} →
-        b ≡ some (λ k. harmed p keep remove place keep (faceAt w k)) (slots w far m) →
+        b ≡ some (λ k. harmed p keep remove place keep (faceAt w k)) (stretch w far m) →
         not b ≡ fairAround p (liveFaces f w) keep remove place
     fair-decided t d = rw t at (fair-known first d)

@@ -8,15 +8,15 @@ use lib.Dec.{leb, eqb}
 use lib.Ieee.{Float}
 use borrow.Author.Tests.{le-leb, lt-leb}
 use Rattle.geometry.specs.declared.Point.{Point}
-use Rattle.surface.specs.Lists.{count}
-use Rattle.surface.specs.Faces.{holds, common}
-use Rattle.mesh.specs.Memory.{faceAt, liveFaces}
-use Rattle.mesh.specs.Around.{slots, Gathered}
-use Rattle.marks.proofs.LiveLaws.{count-gathered}
-use Rattle.foldtest.specs.Allowed.{linked, fairAround, allowedAt}
+use Rattle.lists.specs.Lists.{count, stretch}
+use Rattle.walk.specs.Faces.{holds, common, faceAt}
+use Rattle.memory.specs.Memory.{liveFaces}
+use Rattle.mesh.specs.Contracts.Around.{Gathered}
+use Rattle.ring.proofs.LiveLaws.{count-gathered}
+use Rattle.foldtest.specs.Contracts.Allowed.{linked, fairAround, allowedAt}
 
 module _ {v f : ℕ} {w : List ℕ} {keep near n s : ℕ} (remove : ℕ) (at-keep : Gathered v f w keep near n)
-    (counted : s ≡ count (λ k. holds remove (faceAt w k)) (slots w near n)) where
+    (counted : s ≡ count (λ k. holds remove (faceAt w k)) (stretch w near n)) where
   link-known : {c : ℕ} → c ≡ common v (liveFaces f w) keep remove → (leb 1 s && eqb c s) ≡ linked v (liveFaces f w) keep remove
   link-known d = ap₂ (λ (s c : ℕ). leb 1 s && eqb c s) (counted ∙ count-gathered at-keep remove) d
 

@@ -2,10 +2,10 @@
 use mathlib.Core.Path.{_≡_, refl}
 use mathlib.Core.List.{List, [], _∷_}
 use mathlib.Core.Bool.{true, false}
-use Rattle.surface.specs.declared.Face.{Face}
-use Rattle.surface.specs.Lists.{sum, below}
-use Rattle.surface.specs.Faces.{shared, common}
-use Rattle.foldtest.specs.Allowed.{linked}
+use Rattle.walk.specs.declared.Face.{Face}
+use Rattle.lists.specs.Lists.{sum, below}
+use Rattle.walk.specs.Faces.{shared, common}
+use Rattle.foldtest.specs.Contracts.Allowed.{linked}
 
 -- two triangles that meet at the edge 0 1
 abbrev pub glued : List Face

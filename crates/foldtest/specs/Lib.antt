@@ -1,4 +1,3 @@
 -- What the fold test asks, over the live faces, the points and the place alone.
-pub mod Fair
-pub mod Allowed
+pub mod Contracts
 pub mod Examples

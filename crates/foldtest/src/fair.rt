@@ -3,13 +3,13 @@ ghost use mathlib.Core.Path.{_≡_};
 ghost use Prim.Native.Nat.{_+_, _*_, _<_};
 ghost use lib.ListN.{length};
 ghost use Rattle.geometry.specs.Points.{normal as normalOf};
-ghost use Rattle.vertices.specs.Memory.{pointAt};
-ghost use Rattle.vertices.specs.Rules.{fairNormals};
-ghost use Rattle.foldtest.specs.Fair.{Placed, squashed, turned, movedAt, fairAt};
+ghost use Rattle.meaning.specs.Input.{pointAt};
+ghost use Rattle.meaning.specs.Arithmetic.{fairNormals};
+ghost use Rattle.foldtest.specs.Contracts.Fair.{Placed, squashed, turned, movedAt, fairAt};
 use geometry::Point;
 use geometry::normal;
-use surface::Face;
-use vertices::point_at;
+use memory::point_at;
+use walk::Face;
 
 // Where a point is after the fold.
 fn moved(p: &[f32], x: u32, keep: u32, remove: u32, place: Point) -> Point

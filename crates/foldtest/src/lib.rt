@@ -6,20 +6,19 @@ ghost use mathlib.Core.Path.{_≡_};
 ghost use mathlib.Core.Bool.{true};
 ghost use Prim.Native.Nat.{_*_, _≤_, _<_};
 ghost use lib.ListN.{length};
-ghost use Rattle.surface.specs.Lists.{some};
-ghost use Rattle.surface.specs.Faces.{proper};
-ghost use Rattle.mesh.specs.Memory.{Room, faceAt, liveFaces};
-ghost use Rattle.mesh.specs.Chains.{Tidy};
-ghost use Rattle.mesh.specs.Around.{slots};
-ghost use Rattle.marks.specs.Marking.{Listed, Around};
-ghost use Rattle.foldtest.specs.Fair.{harmed};
-ghost use Rattle.foldtest.specs.Allowed.{linked, fairAround, allowedAt};
+ghost use Rattle.lists.specs.Lists.{some, stretch};
+ghost use Rattle.walk.specs.Faces.{proper, faceAt};
+ghost use Rattle.memory.specs.Memory.{Room, liveFaces};
+ghost use Rattle.mesh.specs.Contracts.Chains.{Tidy};
+ghost use Rattle.ring.specs.Contracts.Marking.{Listed, Around};
+ghost use Rattle.foldtest.specs.Contracts.Fair.{harmed};
+ghost use Rattle.foldtest.specs.Contracts.Allowed.{linked, fairAround, allowedAt};
 pub use fair::is_fair;
 use geometry::Point;
-use marks::common_count;
-use marks::shared_count;
-use mesh::face_in;
-use surface::face_holds;
+use memory::face_in;
+use ring::common_count;
+use ring::shared_count;
+use walk::face_holds;
 
 // Whether the face in a slot is harmed by the fold: it doesn't hold the other point, and is squashed or turned over.
 fn is_harmed(
@@ -57,7 +56,7 @@ fn has_harmed(
     place: Point,
 ) -> bool
     requires { ⌜ Room v f (now w) ⌝ ∗ ⌜ 3 * v ≤ length (now p) ⌝ ∗ ⌜ Listed v f (now w) base n ⌝ }
-    ensures { λ r. ⌜ r ≡ some (λ k. harmed (now (p .entry)) keep remove place other (faceAt (now (w .entry)) k)) (slots (now (w .entry)) base n) ⌝ }
+    ensures { λ r. ⌜ r ≡ some (λ k. harmed (now (p .entry)) keep remove place other (faceAt (now (w .entry)) k)) (stretch (now (w .entry)) base n) ⌝ }
 {
     for i in 0..n {
         let k = w[base + i] as usize;

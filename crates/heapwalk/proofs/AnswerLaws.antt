@@ -12,26 +12,29 @@ use borrow.Author.Tests.{le-leb}
 use Rattle.geometry.specs.declared.Point.{Point}
 use Rattle.placement.specs.declared.Limit.{Limit}
 use Rattle.placement.specs.declared.pair.Vertex.{Vertex}
-use Rattle.surface.specs.Lists.{sum, those, some, without, below}
-use Rattle.surface.specs.Folding.{Mesh, allowed}
-use Rattle.surface.specs.Walk.{folded, closed, ended, pairOf, tried, chosen, answer, after, SameState}
-use Rattle.surface.proofs.SamePairs.{same-self}
-use Rattle.surface.proofs.BagLaws.{bag-refl}
-use Rattle.surface.proofs.SoundLaws.{close-sound}
-use Rattle.mesh.specs.Memory.{liveFaces, But}
+use Rattle.lists.specs.Lists.{sum, those, some, without, below}
+use Rattle.walk.specs.Points.{Mesh}
+use Rattle.walk.specs.FoldTest.{allowed}
+use Rattle.walk.specs.Walk.{folded, closed, ended, tried, chosen, answer, after, SameState}
+use Rattle.walk.specs.Pairs.{pairOf}
+use Rattle.walk.proofs.SamePairs.{same-self}
+use Rattle.lists.proofs.BagLaws.{bag-refl}
+use Rattle.walk.proofs.SoundLaws.{close-sound}
+use Rattle.memory.specs.Memory.{liveFaces}
+use Rattle.lists.specs.Frames.{But}
 use Rattle.mesh.proofs.TidyLaws.{tidy-but}
 use Rattle.mesh.proofs.AroundLaws.{live-faces-but}
-use Rattle.vertices.specs.Memory.{meshOf}
-use Rattle.vertices.specs.Rules.{rulesOf}
-use Rattle.pairs.specs.Memory.{pairAt}
-use Rattle.queue.specs.Memory.{placeIn, openIn, heapState}
-use Rattle.queue.specs.Changes.{Fewer, NoneLeft}
-use Rattle.walks.specs.declared.Step.the-variants.{Closed, Ended}
-use Rattle.walks.specs.declared.Stepped.{Stepped}
-use Rattle.walks.proofs.StateLaws.{same-refl, sound-bag}
-use Rattle.walks.specs.Steps.{StepWithin}
-use Rattle.walks.proofs.MemoryLaws.{mesh-but, within-refl, within-but}
-use Rattle.heapwalk.specs.Steps.{topState, pairState, HeapHolds, TopHolds, PairHolds, PairAnswer, TopTried, HeapStepDone}
+use Rattle.memory.specs.Points.{meshOf}
+use Rattle.meaning.specs.Arithmetic.{rulesOf}
+use Rattle.memory.specs.Entries.{pairAt, entryPlace}
+use Rattle.queue.specs.State.{openIn, heapState}
+use Rattle.queue.specs.Contracts.Changes.{Fewer, NoneLeft}
+use Rattle.plainwalk.specs.declared.Step.the-variants.{Closed, Ended}
+use Rattle.plainwalk.specs.declared.Stepped.{Stepped}
+use Rattle.walk.proofs.StateLaws.{same-refl, sound-bag}
+use Rattle.plainwalk.specs.Steps.{StepWithin}
+use Rattle.plainwalk.proofs.MemoryLaws.{mesh-but, within-refl, within-but}
+use Rattle.heapwalk.specs.Steps.{pairState, HeapHolds, TopHolds, PairHolds, PairAnswer, TopTried, HeapStepDone}
 use Rattle.heapwalk.proofs.MovedLaws.{moved-but, kept-moved}
 use Rattle.heapwalk.proofs.MemoryLaws.{answer-before, pair-state-but}
 
@@ -82,7 +85,7 @@ tried-before {v} {f} {w} {w₁} {p} {q} {limit = limit} {bound = bound} {keep = 
 -- the pair of the entry that was taken off, as it is read
 module _ (v f : ℕ) (w : List ℕ) (p q : List Float) (n s : ℕ) {bound : Float} {keep remove : ℕ}
     (same-keep : keep ≡ pairAt v f w s .keep) (same-remove : remove ≡ pairAt v f w s .remove) where
-  pub top-pair : {live : ℕ} {place : Point} → place ≡ placeIn v p s → TopHolds v f w p q n live bound s →
+  pub top-pair : {live : ℕ} {place : Point} → place ≡ entryPlace v p s → TopHolds v f w p q n live bound s →
       PairHolds v f w p q n live bound keep remove place
   unfolding pairState
   top-pair same-place h = rw (same-keep, same-remove, same-place) (record { held = h .held; same-place = h .place })

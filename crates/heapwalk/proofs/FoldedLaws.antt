@@ -14,33 +14,36 @@ use borrow.Author.Tests.{eqb-false, eq-eqb}
 use Rattle.geometry.specs.declared.Point.{Point}
 use Rattle.placement.specs.declared.Limit.{Limit}
 use Rattle.placement.specs.declared.pair.Vertex.{Vertex}
-use Rattle.surface.specs.declared.Pair.{Pair}
-use Rattle.surface.specs.Lists.{sum, those}
-use Rattle.surface.specs.Folding.{Mesh, mergedOf, foldedFaces, foldedMesh}
-use Rattle.surface.specs.Walk.{folded, pairOf, apart, opened, after, SameState}
-use Rattle.surface.proofs.SumLaws.{sum-append}
-use Rattle.surface.proofs.TestLaws.{neither-of, flag-le}
-use Rattle.surface.proofs.FoldLaws.{fold-exact}
-use Rattle.surface.proofs.SoundLaws.{fold-sound}
-use Rattle.surface.proofs.StepLaws.{fold-room}
-use Rattle.mesh.specs.Memory.{liveFaces, Room, But}
-use Rattle.mesh.proofs.Frames.{but-then, but-widen}
+use Rattle.walk.specs.declared.Pair.{Pair}
+use Rattle.lists.specs.Lists.{sum, those}
+use Rattle.walk.specs.Points.{Mesh, mergedOf}
+use Rattle.walk.specs.Fold.{foldedFaces, foldedMesh}
+use Rattle.walk.specs.Walk.{folded, after, SameState}
+use Rattle.walk.specs.Pairs.{pairOf, apart, opened}
+use Rattle.lists.proofs.SumLaws.{sum-append}
+use Rattle.lists.proofs.TestLaws.{neither-of, flag-le}
+use Rattle.walk.proofs.FoldLaws.{fold-exact}
+use Rattle.walk.proofs.SoundLaws.{fold-sound}
+use Rattle.walk.proofs.StepLaws.{fold-room}
+use Rattle.memory.specs.Memory.{liveFaces, Room}
+use Rattle.lists.specs.Frames.{But}
+use Rattle.lists.proofs.FrameLaws.{but-then, but-widen}
 use Rattle.mesh.proofs.TidyLaws.{tidy-but}
 use Rattle.mesh.proofs.AroundLaws.{live-faces-but}
-use Rattle.vertices.specs.Memory.{vertexAt, meshOf}
-use Rattle.vertices.specs.Rules.{rulesOf}
-use Rattle.vertices.proofs.MeshLaws.{mesh-point}
-use Rattle.opening.specs.Edges.{openedAround}
-use Rattle.folding.specs.Folds.{MeshFolded}
-use Rattle.heap.specs.Memory.{slotAt}
-use Rattle.queue.specs.Memory.{stamp, openIn, heapState}
-use Rattle.queueing.specs.Entering.{Open, Entered}
-use Rattle.walks.specs.declared.Step.the-variants.{Folded}
-use Rattle.walks.proofs.StateLaws.{sound-bag}
-use Rattle.walks.specs.Steps.{StepWithin}
-use Rattle.walks.proofs.MemoryLaws.{live-few, mesh-but, rest-more, within-then}
+use Rattle.memory.specs.Points.{vertexAt, meshOf}
+use Rattle.meaning.specs.Arithmetic.{rulesOf}
+use Rattle.memory.proofs.MeshLaws.{mesh-point}
+use Rattle.openpairs.specs.Contracts.Edges.{openedAround}
+use Rattle.folding.specs.Contracts.Folds.{MeshFolded}
+use Rattle.memory.specs.Entries.{slotAt, stamp}
+use Rattle.queue.specs.State.{openIn, heapState}
+use Rattle.heapwalk.specs.Contracts.Entering.{Open, Entered}
+use Rattle.plainwalk.specs.declared.Step.the-variants.{Folded}
+use Rattle.walk.proofs.StateLaws.{sound-bag}
+use Rattle.plainwalk.specs.Steps.{StepWithin}
+use Rattle.plainwalk.proofs.MemoryLaws.{live-few, mesh-but, rest-more, within-then}
 use Rattle.heapwalk.specs.Steps.{pairState, PairHolds, PairAnswer}
-use Rattle.heapwalk.proofs.ListLaws.{by-twos}
+use Rattle.lists.proofs.ThoseLaws.{by-twos}
 use Rattle.heapwalk.proofs.MovedLaws.{Moved, spared, queue-moved, fewer-moved, open-moved, kept-moved}
 use Rattle.heapwalk.proofs.MemoryLaws.{past-drop, mesh-floats, pair-open, pair-points, pair-differ, pair-shared}
 use Rattle.heapwalk.proofs.StampLaws.{bumped, touches, first-room, first-stamp, both-but, both-stamps}

@@ -1,36 +1,34 @@
 -- The heap walk as a walk: its state is read off the current entries of the queue, and is held where only the cells of the folds change.
 -- Assumes nothing.
-use Prim.Native.Nat.{ℕ, _+_, _*_, _^_, _≤_, _<_}
+use Prim.Native.Nat.{ℕ, _+_, _*_, _^_, _≤_}
 use native.Mathlib.Omega.{arith}
 use mathlib.Core.Path.{_≡_, refl, sym, ap, _∙_}
 use mathlib.Core.List.{List}
 use lib.Ieee.{Float}
 use lib.ListN.{length}
 use Rattle.placement.specs.declared.Limit.{Limit}
-use Rattle.placement.specs.declared.pair.Vertex.{Vertex}
-use Rattle.surface.specs.Lists.{sum}
-use Rattle.surface.specs.Walk.{State, started, SameState}
-use Rattle.surface.specs.Sound.{Sound}
-use Rattle.mesh.specs.Memory.{liveFaces, But}
-use Rattle.mesh.specs.Chains.{Tidy}
-use Rattle.mesh.proofs.Frames.{but-widen}
+use Rattle.walk.specs.Walk.{started, SameState}
+use Rattle.memory.specs.Memory.{liveFaces}
+use Rattle.lists.specs.Frames.{But}
+use Rattle.mesh.specs.Contracts.Chains.{Tidy}
+use Rattle.lists.proofs.FrameLaws.{but-widen}
 use Rattle.mesh.proofs.TidyLaws.{tidy-but}
 use Rattle.mesh.proofs.AroundLaws.{live-faces-but}
-use Rattle.vertices.specs.Memory.{meshOf}
-use Rattle.vertices.specs.Rules.{rulesOf}
-use Rattle.vertices.proofs.MeshLaws.{mesh-length}
-use Rattle.walks.proofs.MemoryLaws.{mesh-but, within-then}
-use Rattle.queue.specs.Memory.{openIn, heapState}
-use Rattle.queueing.specs.Entering.{Open, Started}
-use Rattle.queueing.proofs.FrameLaws.{SameEntries, mesh-stays, queue-stays, open-stays, kept-stays}
-use Rattle.walks.specs.declared.Stepped.{Stepped}
-use Rattle.walks.specs.declared.Walked.{Walked}
-use Rattle.walks.specs.Steps.{WithinTo}
-use Rattle.walks.specs.Whole.{startIn, WalkedFrom, WalkDone}
-use Rattle.walks.proofs.StateLaws.{sound-bag}
-use Rattle.walks.proofs.RunLaws.{start-bag}
-use Rattle.walks.proofs.GoingLaws.{Engine, Step}
-use Rattle.walks.proofs.WalkLaws.{start-sound}
+use Rattle.memory.specs.Points.{meshOf}
+use Rattle.meaning.specs.Arithmetic.{rulesOf}
+use Rattle.memory.proofs.MeshLaws.{mesh-length}
+use Rattle.plainwalk.proofs.MemoryLaws.{mesh-but, within-then}
+use Rattle.queue.specs.State.{openIn, heapState}
+use Rattle.heapwalk.specs.Contracts.Entering.{Open, Started}
+use Rattle.heapwalk.proofs.QueueFrames.{SameEntries, mesh-stays, queue-stays, open-stays, kept-stays}
+use Rattle.plainwalk.specs.declared.Stepped.{Stepped}
+use Rattle.plainwalk.specs.declared.Walked.{Walked}
+use Rattle.plainwalk.specs.Steps.{WithinTo}
+use Rattle.plainwalk.specs.Whole.{startIn, WalkedFrom, WalkDone}
+use Rattle.walk.proofs.StateLaws.{sound-bag}
+use Rattle.walk.proofs.RunLaws.{start-bag}
+use Rattle.plainwalk.proofs.GoingLaws.{Engine, Step}
+use Rattle.plainwalk.proofs.WalkLaws.{start-sound}
 use Rattle.heapwalk.specs.Steps.{HeapHolds, HeapStepDone}
 
 module _ {v f lo hi : ℕ} {w w' : List ℕ} {p q : List Float} {n : ℕ} {bound : Float}

@@ -1,5 +1,8 @@
 -- Laws of the heap walk in memory, leaves first.
-pub mod ListLaws
+pub mod QueueFrames
+pub mod EnterLaws
+pub mod AroundLaws
+pub mod StartLaws
 pub mod SlotLaws
 pub mod MovedLaws
 pub mod MemoryLaws

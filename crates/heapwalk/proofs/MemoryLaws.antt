@@ -12,30 +12,31 @@ use Rattle.geometry.specs.declared.Point.{Point}
 use Rattle.placement.specs.declared.Limit.{Limit}
 use Rattle.placement.specs.declared.pair.Vertex.{Vertex}
 use Rattle.placement.specs.Pairs.{pairPlace}
-use Rattle.surface.specs.declared.Pair.{Pair}
-use Rattle.surface.specs.Lists.{sum}
-use Rattle.surface.specs.Faces.{shared}
-use Rattle.surface.specs.Walk.{State, Answer, pairOf, after, SameState}
-use Rattle.surface.proofs.SamePairs.{same-self}
-use Rattle.surface.proofs.SoundLaws.{isOpen, open-differ, open-shared, open-below}
-use Rattle.surface.proofs.BagWalk.{after-bag}
-use Rattle.mesh.specs.Memory.{liveFaces, But}
+use Rattle.walk.specs.declared.Pair.{Pair}
+use Rattle.lists.specs.Lists.{sum}
+use Rattle.walk.specs.Faces.{shared}
+use Rattle.walk.specs.Walk.{State, Answer, after, SameState}
+use Rattle.walk.specs.Pairs.{pairOf}
+use Rattle.walk.proofs.SamePairs.{same-self}
+use Rattle.walk.proofs.SoundLaws.{isOpen, open-differ, open-shared, open-below}
+use Rattle.walk.proofs.BagWalk.{after-bag}
+use Rattle.memory.specs.Memory.{liveFaces}
+use Rattle.lists.specs.Frames.{But, FloatsBut}
 use Rattle.mesh.proofs.TidyLaws.{tidy-but}
 use Rattle.mesh.proofs.AroundLaws.{live-faces-but}
-use Rattle.vertices.specs.Memory.{vertexAt, meshOf}
-use Rattle.vertices.specs.Rules.{rulesOf}
-use Rattle.vertices.proofs.BelowLaws.{each-same}
-use Rattle.vertices.proofs.MeshLaws.{mesh-length, mesh-of-parts}
-use Rattle.heap.specs.Memory.{slotAt}
-use Rattle.queue.specs.Memory.{openIn}
-use Rattle.queue.specs.Changes.{FloatsBut}
-use Rattle.queueing.specs.Entering.{Open}
-use Rattle.walks.specs.declared.Stepped.{Stepped}
-use Rattle.walks.proofs.StateLaws.{same-trans}
-use Rattle.walks.specs.Steps.{StepWithin}
-use Rattle.walks.proofs.MemoryLaws.{mesh-but, vertex-but, within-then}
+use Rattle.memory.specs.Points.{vertexAt, meshOf}
+use Rattle.meaning.specs.Arithmetic.{rulesOf}
+use Rattle.lists.proofs.EachLaws.{each-same}
+use Rattle.memory.proofs.MeshLaws.{mesh-length, mesh-of-parts}
+use Rattle.memory.specs.Entries.{slotAt}
+use Rattle.queue.specs.State.{openIn}
+use Rattle.heapwalk.specs.Contracts.Entering.{Open}
+use Rattle.plainwalk.specs.declared.Stepped.{Stepped}
+use Rattle.walk.proofs.StateLaws.{same-trans}
+use Rattle.plainwalk.specs.Steps.{StepWithin}
+use Rattle.plainwalk.proofs.MemoryLaws.{mesh-but, vertex-but, within-then}
 use Rattle.heapwalk.specs.Steps.{pairState, PairHolds, HeapAnswer}
-use Rattle.heapwalk.proofs.ListLaws.{those-all}
+use Rattle.lists.proofs.ThoseLaws.{those-all}
 use Rattle.heapwalk.proofs.MovedLaws.{moved-but, queue-moved, fewer-moved, open-moved, kept-moved}
 
 -- ---- floats

@@ -13,19 +13,19 @@ use lib.Ieee.{Float}
 use lib.ListN.{length}
 use borrow.Author.Tests.{not-true}
 use Rattle.placement.specs.Pairs.{pairPlace, pairCost}
-use Rattle.surface.specs.declared.Pair.{Pair}
-use Rattle.surface.specs.Lists.{sum, those}
-use Rattle.surface.proofs.SamePairs.{pair-path}
-use Rattle.surface.proofs.TestLaws.{neither-of}
-use Rattle.mesh.specs.Memory.{But}
-use Rattle.vertices.specs.Memory.{vertexAt}
-use Rattle.pairs.specs.Memory.{pairAt}
-use Rattle.heap.specs.Memory.{slotAt, queued, costIn, rankIn, rankAt}
-use Rattle.queue.specs.Memory.{stamp, keepStamp, removeStamp, placeIn, isCurrent, isQueued, openIn}
-use Rattle.queue.specs.Queued.{Queue, Kept}
-use Rattle.queue.specs.Changes.{Fewer}
-use Rattle.walks.proofs.MemoryLaws.{vertex-but}
-use Rattle.heapwalk.proofs.ListLaws.{still-equal, both-still, kept-those, every-in}
+use Rattle.walk.specs.declared.Pair.{Pair}
+use Rattle.lists.specs.Lists.{sum, those}
+use Rattle.walk.proofs.SamePairs.{pair-path}
+use Rattle.lists.proofs.TestLaws.{neither-of}
+use Rattle.lists.specs.Frames.{But}
+use Rattle.memory.specs.Points.{vertexAt}
+use Rattle.memory.specs.Entries.{pairAt, slotAt, queued, costIn, stamp, keepStamp, removeStamp, entryPlace}
+use Rattle.queue.specs.Contracts.Ranks.{rankIn, rankAt}
+use Rattle.queue.specs.State.{isCurrent, isQueued, openIn}
+use Rattle.queue.specs.Contracts.Queued.{Queue, Kept}
+use Rattle.queue.specs.Contracts.Changes.{Fewer}
+use Rattle.plainwalk.proofs.MemoryLaws.{vertex-but}
+use Rattle.lists.proofs.ThoseLaws.{still-equal, both-still, kept-those, every-in}
 use Rattle.heapwalk.proofs.SlotLaws.{slot-below, queued-below, queued-same}
 
 -- what a change leaves of the entries, and what it does to the points that it touches
@@ -35,7 +35,7 @@ pub record Moved (v f : ℕ) (w : List ℕ) (p q : List Float) (w' : List ℕ) (
   pub keep-stamps : (s : ℕ) → s < 3 * f → keepStamp v f w' s ≡ keepStamp v f w s
   pub remove-stamps : (s : ℕ) → s < 3 * f → removeStamp v f w' s ≡ removeStamp v f w s
   pub costs : (s : ℕ) → s < 3 * f → costIn v q' s ≡ costIn v q s
-  pub places : (s : ℕ) → s < 3 * f → placeIn v p' s ≡ placeIn v p s
+  pub places : (s : ℕ) → s < 3 * f → entryPlace v p' s ≡ entryPlace v p s
   pub stamps : (x : ℕ) → x < v → stamp v f w' x ≡ stamp v f w x + cond (touched x) 1 0
   pub carries : (x : ℕ) → x < v → touched x ≡ false → vertexAt v f w' p' q' x ≡ vertexAt v f w p q x
 

@@ -8,15 +8,15 @@ use mathlib.Core.Bool.{true, cond}
 use lib.Dec.{ltb, eqb}
 use lib.Ieee.{Float}
 use borrow.Author.Tests.{lt-ltb, ltb-true, eqb-true, eq-eqb}
-use Rattle.surface.specs.Lists.{every}
-use Rattle.surface.proofs.SumLaws.{every-some, some-from}
-use Rattle.mesh.proofs.BelowLaws.{every-at, map-same}
-use Rattle.mesh.proofs.Sums.{sum-none, every-counted}
-use Rattle.vertices.proofs.BelowLaws.{length-each, getD-each}
-use Rattle.heap.specs.Memory.{slotAt, queued}
-use Rattle.queue.specs.Memory.{isQueued}
-use Rattle.queue.specs.Queued.{Queue}
-use Rattle.heapwalk.proofs.ListLaws.{every-below}
+use Rattle.lists.specs.Lists.{every}
+use Rattle.lists.proofs.SumLaws.{every-some, some-from}
+use Rattle.lists.proofs.BelowLaws.{every-at, map-same}
+use Rattle.lists.proofs.BelowSums.{sum-none, every-counted}
+use Rattle.lists.proofs.EachLaws.{length-each, getD-each}
+use Rattle.memory.specs.Entries.{slotAt, queued}
+use Rattle.queue.specs.State.{isQueued}
+use Rattle.queue.specs.Contracts.Queued.{Queue}
+use Rattle.lists.proofs.ThoseLaws.{every-below}
 
 module _ {v f : ℕ} {w : List ℕ} {q : List Float} {n : ℕ} (queue : Queue v f w q n) where
   -- every place of the order holds a slot

@@ -11,11 +11,12 @@ use lib.Dec.{eqb}
 use lib.ListN.{set}
 use lib.Seq.{getD-set-same, getD-set-other}
 use borrow.Author.Tests.{eqb-true, eqb-false}
-use Rattle.surface.proofs.SumLaws.{by-test}
-use Rattle.mesh.specs.Memory.{Room, But}
-use Rattle.mesh.proofs.TestLaws.{not-two}
-use Rattle.mesh.proofs.Frames.{but-set, but-then}
-use Rattle.queue.specs.Memory.{stamp}
+use Rattle.lists.proofs.TestLaws.{by-test}
+use Rattle.memory.specs.Memory.{Room}
+use Rattle.lists.specs.Frames.{But}
+use Rattle.lists.proofs.CondLaws.{not-two}
+use Rattle.lists.proofs.FrameLaws.{but-set, but-then}
+use Rattle.memory.specs.Entries.{stamp}
 
 -- the memory with the stamp of x one higher
 abbrev pub bumped : ℕ → ℕ → List ℕ → ℕ → List ℕ

@@ -12,32 +12,34 @@ use lib.Ieee.{Float}
 use lib.ListN.{length}
 use borrow.Author.Tests.{le-leb, lt-leb, leb-true, lt-ltb}
 use Rattle.placement.specs.declared.Limit.{Limit}
-use Rattle.surface.specs.declared.Pair.{Pair}
-use Rattle.surface.specs.Lists.{sum, count}
-use Rattle.surface.specs.Walk.{samePair, order, tried, answer, SameState}
-use Rattle.surface.proofs.SumLaws.{by-test, some-count}
-use Rattle.surface.proofs.SamePairs.{pair-path, same-self}
-use Rattle.surface.proofs.LeastLaws.{notAbove, IsLeast, chosen-is}
-use Rattle.surface.proofs.BagWalk.{sound-fitting}
-use Rattle.mesh.specs.Memory.{liveFaces}
+use Rattle.walk.specs.declared.Pair.{Pair}
+use Rattle.lists.specs.Lists.{sum, count}
+use Rattle.walk.specs.Pairs.{samePair, order}
+use Rattle.walk.specs.Walk.{tried, answer, SameState}
+use Rattle.lists.proofs.TestLaws.{by-test}
+use Rattle.lists.proofs.SumLaws.{some-count}
+use Rattle.walk.proofs.SamePairs.{pair-path, same-self}
+use Rattle.walk.proofs.LeastLaws.{notAbove, IsLeast, chosen-is}
+use Rattle.walk.proofs.BagWalk.{sound-fitting}
+use Rattle.memory.specs.Memory.{liveFaces}
 use Rattle.mesh.proofs.TidyLaws.{tidy-but}
 use Rattle.mesh.proofs.AroundLaws.{live-faces-but}
-use Rattle.vertices.specs.Memory.{meshOf}
-use Rattle.vertices.specs.Rules.{rulesOf}
-use Rattle.vertices.proofs.MeshLaws.{mesh-length}
-use Rattle.pairs.specs.Memory.{pairAt}
-use Rattle.pairs.specs.Ranks.{rankedAt}
-use Rattle.pairs.proofs.LeastLaws.{order-rank}
-use Rattle.heap.specs.Memory.{slotAt, queued, rankIn}
-use Rattle.queue.specs.Memory.{isCurrent, isQueued, openIn, heapState}
+use Rattle.memory.specs.Points.{meshOf}
+use Rattle.meaning.specs.Arithmetic.{rulesOf}
+use Rattle.memory.proofs.MeshLaws.{mesh-length}
+use Rattle.memory.specs.Entries.{pairAt, slotAt, queued}
+use Rattle.openpairs.specs.Contracts.Ranks.{rankedAt}
+use Rattle.openpairs.proofs.LeastLaws.{order-rank}
+use Rattle.queue.specs.Contracts.Ranks.{rankIn}
+use Rattle.queue.specs.State.{isCurrent, isQueued, openIn, heapState}
 use Rattle.queue.specs.declared.Taken.{Taken}
 use Rattle.queue.specs.declared.Taken.the-variants.{Entry, Empty}
-use Rattle.queue.specs.Changes.{TakenOff, NoneLeft, TookCurrent}
-use Rattle.walks.specs.declared.Stepped.{Stepped}
-use Rattle.walks.proofs.StateLaws.{sound-bag}
-use Rattle.walks.proofs.MemoryLaws.{mesh-but, vertex-but, within-but}
+use Rattle.queue.specs.Contracts.Changes.{TakenOff, NoneLeft, TookCurrent}
+use Rattle.plainwalk.specs.declared.Stepped.{Stepped}
+use Rattle.walk.proofs.StateLaws.{sound-bag}
+use Rattle.plainwalk.proofs.MemoryLaws.{mesh-but, vertex-but, within-but}
 use Rattle.heapwalk.specs.Steps.{pairState, topState, HeapHolds, TopHolds, TopTried, HeapStepDone}
-use Rattle.heapwalk.proofs.ListLaws.{every-below, every-kept}
+use Rattle.lists.proofs.ThoseLaws.{every-below, every-kept}
 use Rattle.heapwalk.proofs.SlotLaws.{place-queued}
 use Rattle.heapwalk.proofs.MovedLaws.{Moved, moved-but, kept-moved}
 use Rattle.heapwalk.proofs.MemoryLaws.{answer-before}

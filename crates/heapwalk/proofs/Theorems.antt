@@ -3,29 +3,29 @@
 -- Assumes nothing.
 use Prim.Native.Nat.{ℕ, _+_, _*_, _^_, _≤_}
 use native.Mathlib.Omega.{arith}
-use mathlib.Core.Path.{_≡_, sym, ap, _∙_}
+use mathlib.Core.Path.{_≡_, sym, _∙_}
 use mathlib.Core.List.{List}
 use lib.Ieee.{Float}
 use lib.ListN.{length}
 use Rattle.placement.specs.declared.Limit.{Limit}
-use Rattle.surface.specs.declared.Pair.{Pair}
-use Rattle.surface.specs.Walk.{folded, answer, after, SameState}
-use Rattle.surface.proofs.SoundLaws.{isOpen}
-use Rattle.surface.proofs.BagLaws.{bag-sym}
-use Rattle.surface.proofs.BagWalk.{answer-bag, step-bag, sound-fitting}
-use Rattle.surface.proofs.StepLaws.{open-bound, fold-room}
-use Rattle.mesh.specs.Memory.{liveFaces}
-use Rattle.vertices.specs.Memory.{meshOf}
-use Rattle.vertices.specs.Rules.{rulesOf}
-use Rattle.vertices.proofs.MeshLaws.{mesh-length}
-use Rattle.pairs.specs.Memory.{stateOf}
-use Rattle.queue.specs.Memory.{openIn, heapState}
-use Rattle.walks.specs.declared.Stepped.{Stepped}
-use Rattle.walks.specs.declared.Walked.{Walked}
-use Rattle.walks.specs.Steps.{answerOf, StepDone}
-use Rattle.walks.specs.Whole.{foldsIn, WalkDone}
-use Rattle.walks.proofs.StateLaws.{same-trans}
-use Rattle.walks.proofs.MemoryLaws.{live-few}
+use Rattle.walk.specs.declared.Pair.{Pair}
+use Rattle.walk.specs.Walk.{folded, after, SameState}
+use Rattle.walk.proofs.SoundLaws.{isOpen}
+use Rattle.lists.proofs.BagLaws.{bag-sym}
+use Rattle.walk.proofs.BagWalk.{answer-bag, step-bag, sound-fitting}
+use Rattle.walk.proofs.StepLaws.{open-bound, fold-room}
+use Rattle.memory.specs.Points.{meshOf}
+use Rattle.meaning.specs.Arithmetic.{rulesOf}
+use Rattle.memory.proofs.MeshLaws.{mesh-length}
+use Rattle.openpairs.specs.State.{stateOf}
+use Rattle.queue.specs.State.{openIn, heapState}
+use Rattle.plainwalk.specs.declared.Stepped.{Stepped}
+use Rattle.plainwalk.specs.declared.Walked.{Walked}
+use Rattle.plainwalk.specs.Steps.{answerOf, StepDone}
+use Rattle.memory.specs.Entries.{foldsIn}
+use Rattle.plainwalk.specs.Whole.{WalkDone}
+use Rattle.walk.proofs.StateLaws.{same-trans}
+use Rattle.plainwalk.proofs.MemoryLaws.{live-few}
 use Rattle.heapwalk.specs.Steps.{HeapHolds, HeapStepDone}
 
 -- ---- room

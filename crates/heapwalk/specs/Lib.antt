@@ -1,3 +1,3 @@
 -- The heap walk: a step and the whole walk, tied to the plain walk.
+pub mod Contracts
 pub mod Steps
-pub mod Whole

@@ -8,17 +8,18 @@ use Rattle.placement.specs.declared.Limit.{Limit}
 use Rattle.placement.specs.declared.pair.Vertex.{Vertex}
 use Rattle.placement.specs.Pairs.{pairPlace}
 use Rattle.geometry.specs.declared.Point.{Point}
-use Rattle.surface.specs.declared.Pair.{Pair}
-use Rattle.surface.specs.Walk.{State, Answer, pairOf, tried, answer, after, SameState}
-use Rattle.surface.specs.Sound.{Sound}
-use Rattle.mesh.specs.Memory.{liveFaces}
-use Rattle.vertices.specs.Memory.{vertexAt, meshOf}
-use Rattle.vertices.specs.Rules.{rulesOf}
-use Rattle.pairs.specs.Memory.{pairAt}
-use Rattle.queue.specs.Memory.{stamp, placeIn, openIn, heapState}
-use Rattle.queueing.specs.Entering.{Open}
-use Rattle.walks.specs.declared.Stepped.{Stepped}
-use Rattle.walks.specs.Steps.{answerOf, StepWithin}
+use Rattle.walk.specs.declared.Pair.{Pair}
+use Rattle.walk.specs.Walk.{State, Answer, tried, answer, after, SameState}
+use Rattle.walk.specs.Pairs.{pairOf}
+use Rattle.walk.specs.Sound.{Sound}
+use Rattle.memory.specs.Memory.{liveFaces}
+use Rattle.memory.specs.Points.{vertexAt, meshOf}
+use Rattle.meaning.specs.Arithmetic.{rulesOf}
+use Rattle.memory.specs.Entries.{pairAt, stamp, entryPlace}
+use Rattle.queue.specs.State.{openIn, heapState}
+use Rattle.heapwalk.specs.Contracts.Entering.{Open}
+use Rattle.plainwalk.specs.declared.Stepped.{Stepped}
+use Rattle.plainwalk.specs.Steps.{answerOf, StepWithin}
 
 -- the state while a pair is off the queue: it is still open
 unfoldable pub pairState : ℕ → ℕ → List ℕ → List Float → List Float → ℕ → Pair → State Vertex
@@ -45,7 +46,7 @@ HeapHolds v f w p q n live bound = Held v f w p q n live bound (heapState v f w 
 pub record TopHolds (v f : ℕ) (w : List ℕ) (p q : List Float) (n live : ℕ) (bound : Float) (s : ℕ) : Type 0 where
   pub held : Held v f w p q n live bound (topState v f w p q n s)
   pub slot : s < 3 * f
-  pub place : placeIn v p s ≡ pairPlace bound (vertexAt v f w p q (pairAt v f w s .keep)) (vertexAt v f w p q (pairAt v f w s .remove))
+  pub place : entryPlace v p s ≡ pairPlace bound (vertexAt v f w p q (pairAt v f w s .keep)) (vertexAt v f w p q (pairAt v f w s .remove))
 
 -- the same of a pair that was read, with its place
 pub record PairHolds (v f : ℕ) (w : List ℕ) (p q : List Float) (n live : ℕ) (bound : Float) (keep remove : ℕ) (place : Point) : Type 0 where

@@ -2,22 +2,26 @@
 ghost use mathlib.Core.Path.{_≡_};
 ghost use Prim.Native.Nat.{_+_, _*_, _≤_};
 ghost use lib.ListN.{length};
-ghost use Rattle.surface.specs.Walk.{pairOf, folded, tried};
-ghost use Rattle.mesh.specs.Memory.{liveFaces};
-ghost use Rattle.mesh.specs.Chains.{Tidy};
-ghost use Rattle.vertices.specs.Memory.{meshOf};
-ghost use Rattle.vertices.specs.Rules.{rulesOf};
-ghost use Rattle.queue.specs.Memory.{heapState};
-ghost use Rattle.walks.specs.Steps.{Listed};
-ghost use Rattle.walks.specs.Whole.{WalkedFrom, WalkDone};
+ghost use Rattle.walk.specs.Pairs.{pairOf};
+ghost use Rattle.walk.specs.Walk.{folded, tried};
+ghost use Rattle.memory.specs.Memory.{liveFaces};
+ghost use Rattle.mesh.specs.Contracts.Chains.{Tidy};
+ghost use Rattle.memory.specs.Points.{meshOf};
+ghost use Rattle.meaning.specs.Arithmetic.{rulesOf};
+ghost use Rattle.queue.specs.State.{heapState};
+ghost use Rattle.plainwalk.specs.Steps.{Listed};
+ghost use Rattle.plainwalk.specs.Whole.{WalkedFrom, WalkDone};
 ghost use Rattle.heapwalk.specs.Steps.{PairHolds, PairAnswer, HeapHolds, TopHolds, TopTried, HeapStepDone};
+
+mod entering;
+
 use geometry::Point;
 use placement::Limit;
+use plainwalk::Step;
+use plainwalk::Stepped;
+use plainwalk::Walked;
 use queue::Taken;
-use surface::Pair;
-use walks::Step;
-use walks::Stepped;
-use walks::Walked;
+use walk::Pair;
 
 // Folds the pair of the entry that was taken off: the mesh, then both stamps, then the pairs that the fold opens. The faces around its points are listed.
 fn fold_top(
@@ -44,7 +48,7 @@ fn fold_top(
     let gone = folding::fold_mesh(w, p, q, v, f, keep, remove, place, near, n, far, m);
     queue::bump(w, v, f, keep as usize);
     queue::bump(w, v, f, remove as usize);
-    let more = queueing::enter_around(w, p, q, v, f, entries, false, keep, limit, bound);
+    let more = entering::enter_around(w, p, q, v, f, entries, false, keep, limit, bound);
     let left = live - gone;
     Stepped {
         step: Step::Folded(Pair { keep, remove }),
@@ -168,9 +172,9 @@ fn try_top(
     requires { ⌜ TopHolds v f (now w) (now p) (now q) entries live bound s ⌝ }
     ensures { λ r. ⌜ TopTried v f (now (w .entry)) (now (p .entry)) (now (q .entry)) entries s limit bound (now (w .exit)) (now (p .exit)) (now (q .exit)) r ⌝ }
 {
-    let keep = pairs::keep_at(w, v, f, s);
-    let remove = pairs::remove_at(w, v, f, s);
-    let place = vertices::point_at(p, v + s);
+    let keep = openpairs::keep_at(w, v, f, s);
+    let remove = openpairs::remove_at(w, v, f, s);
+    let place = memory::point_at(p, v + s);
     try_pair(
         w,
         p,
@@ -247,7 +251,7 @@ fn walk_on(
         let step = stepped.step;
         match step {
             Step::Folded(pair) => {
-                walks::note_fold(w, v, f, folds, pair);
+                plainwalk::note_fold(w, v, f, folds, pair);
                 folds += 1;
             }
             Step::Closed(_) => {}
@@ -275,6 +279,6 @@ pub fn heap_walk(
     requires { ⌜ Tidy v f (now w) ⌝ ∗ ⌜ length (liveFaces f (now w)) ≡ f ⌝ ∗ ⌜ 3 * v + 9 * f ≤ length (now p) ⌝ ∗ ⌜ 10 * v + 3 * f ≤ length (now q) ⌝ }
     ensures { λ r. ⌜ WalkDone v f (now (w .entry)) (now (p .entry)) (now (q .entry)) target limit bound (now (w .exit)) (now (p .exit)) (now (q .exit)) r ⌝ }
 {
-    let entries = queueing::enter_start(w, p, q, v, f, limit, bound);
+    let entries = entering::enter_start(w, p, q, v, f, limit, bound);
     walk_on(w, p, q, v, f, entries, f, target, limit, bound)
 }

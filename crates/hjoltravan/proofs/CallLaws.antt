@@ -4,9 +4,9 @@ use mathlib.Core.Path.{_≡_, refl, ap, _∙_}
 use mathlib.Core.List.{List}
 use mathlib.Core.Bool.{Bool}
 use lib.Ieee.{Float}
-use Rattle.checks.specs.Verdicts.{Input}
-use Rattle.thinning.specs.declared.Answer.{Answer}
-use Rattle.thinning.specs.Entry.{Answered}
+use Rattle.meaning.specs.Input.{Input}
+use Rattle.meaning.specs.declared.Answer.{Answer}
+use Rattle.meaning.specs.Call.{Answered}
 use Rattle.hjoltravan.specs.Calls.{fiveOf, Called}
 
 pub called : {i : Input} {preserve : Bool}

@@ -6,10 +6,10 @@ use mathlib.Core.Bool.{Bool, true, false}
 use lib.Ieee.{Float}
 use Rattle.placement.specs.declared.Limit.{Limit}
 use Rattle.placement.specs.declared.Limit.the-variants.{Unlimited, AtMost}
-use Rattle.checks.specs.Verdicts.{Input}
-use Rattle.thinning.specs.declared.Answer.{Answer}
-use Rattle.thinning.specs.Outcomes.{outcome, foldsOf}
-use Rattle.thinning.specs.Entry.{Answered, listed}
+use Rattle.meaning.specs.Input.{Input}
+use Rattle.meaning.specs.declared.Answer.{Answer}
+use Rattle.meaning.specs.Outcome.{outcome, foldsOf}
+use Rattle.meaning.specs.Call.{Answered, listed}
 
 -- a limit only where there is one
 abbrev pub limitOf : Bool → Float → Limit

@@ -3,10 +3,10 @@ ghost use mathlib.Core.Path.{_≡_};
 ghost use Rattle.bits.specs.Root.{rootBits};
 ghost use Rattle.bits.specs.Narrow.{narrowBits};
 ghost use Rattle.bits.specs.Order.{orderKey};
-ghost use Rattle.thinning.specs.Entry.{inputOf};
+ghost use Rattle.meaning.specs.Call.{inputOf};
 ghost use Rattle.hjoltravan.specs.Calls.{limitOf, fiveOf, Called, FoldsTold};
+use meaning::Answer;
 use placement::Limit;
-use thinning::Answer;
 
 // A limit only where there is one.
 fn limit_of(limited: bool, limit: f32) -> Limit

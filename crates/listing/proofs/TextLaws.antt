@@ -2,13 +2,13 @@
 -- Assumes nothing.
 use Prim.Native.Nat.{ℕ, zero, suc, _+_, _*_, _/_, _≤_}
 use native.Mathlib.Omega.{arith}
-use mathlib.Core.Path.{_≡_, refl, sym, ap, _∙_}
+use mathlib.Core.Path.{_≡_, refl, sym, ap}
 use mathlib.Core.List.{List, [], _∷_, _++_}
 use mathlib.Core.Bool.{Bool, true, false, _&&_}
 use lib.Dec.{leb}
 use borrow.Author.Tests.{leb-true}
-use lib.ListN.{length, getD, length-append}
-use lib.Ieee.{Float, nan, binary32, toBits}
+use lib.ListN.{length, length-append}
+use lib.Ieee.{Float, binary32, toBits}
 use Rattle.listing.specs.declared.Listed.the-variants.{Bytes, NoRoom}
 use Rattle.listing.specs.Digits.{decimal, eightDigits, places}
 use Rattle.listing.specs.Texts.{numberThen, floatThen, wordLine, pointLine, faceLine, linesTo, answerWord, unitWord, foldsWord, verticesWord, facesWord, placeWord, headText, refusalText, meshText, refusalRoom, meshRoom, meshFits}

@@ -1,7 +1,7 @@
 -- Document 01's two listings, byte for byte. The proofs compute them from the definitions.
 use Prim.Native.Nat.{ℕ}
 use mathlib.Core.Path.{_≡_, refl}
-use mathlib.Core.List.{List, [], _∷_, _++_, map}
+use mathlib.Core.List.{List, [], _∷_, map}
 use lib.Ieee as ieee
 use lib.Ieee.{binary32, span, climb, size, odd, units, round, ofFields, ofBits, toBits}
 use Rattle.listing.specs.Digits.{digits, places, decimal, eightDigits}

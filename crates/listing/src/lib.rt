@@ -1,10 +1,10 @@
 // The listing of an answer, byte for byte, into a buffer that the caller lends.
 ghost use mathlib.Core.Path.{_≡_};
-ghost use mathlib.Core.List.{_∷_, [], _++_};
-ghost use Prim.Native.Nat.{_+_, _*_, _/_, _^_, _≤_, _<_};
+ghost use mathlib.Core.List.{[], _∷_};
+ghost use Prim.Native.Nat.{_+_, _*_, _/_, _≤_, _<_};
 ghost use lib.ListN.{length};
 ghost use lib.Ieee.{binary32, toBits};
-ghost use Rattle.listing.specs.Digits.{glyph as glyphOf, digits, places as placesOf, decimal, eightDigits};
+ghost use Rattle.listing.specs.Digits.{glyph as glyphOf, digits, places as placesOf, decimal};
 ghost use Rattle.listing.specs.Texts.{numberThen, floatThen, wordLine, pointLine, faceLine, linesTo, headText, refusalText, meshText, refusalFits, meshFits};
 ghost use Rattle.listing.specs.Written.{Put, Lists};
 

@@ -8,15 +8,18 @@ use mathlib.Core.Bool.{Bool, _&&_, cond}
 use lib.Dec.{ltb}
 use lib.ListN.{getD}
 use borrow.Author.Tests.{lt-ltb}
-use Rattle.surface.specs.declared.Face.{Face}
-use Rattle.surface.specs.Lists.{sum, those, below}
-use Rattle.surface.specs.Faces.{holds}
-use Rattle.mesh.specs.Memory.{lives, faceAt, liveFaces, But}
-use Rattle.mesh.specs.Around.{slots, liveAt, Gathered}
-use Rattle.mesh.proofs.TestLaws.{cond-and, cond-self}
-use Rattle.mesh.proofs.Sums.{sum-map, sum-those, sum-same, sum-none, sum-ones, count-most, every-counted}
-use Rattle.mesh.proofs.BelowLaws.{kept-same, map-same}
-use Rattle.mesh.proofs.Frames.{lives-but, face-but, live-at-but}
+use Rattle.walk.specs.declared.Face.{Face}
+use Rattle.lists.specs.Lists.{sum, those, below, stretch}
+use Rattle.walk.specs.Faces.{holds, faceAt}
+use Rattle.memory.specs.Memory.{lives, liveFaces}
+use Rattle.lists.specs.Frames.{But}
+use Rattle.mesh.specs.Contracts.Around.{Gathered}
+use Rattle.memory.specs.Memory.{liveAt}
+use Rattle.lists.proofs.CondLaws.{cond-and, cond-self}
+use Rattle.lists.proofs.SumLaws.{sum-map, sum-those}
+use Rattle.lists.proofs.BelowSums.{sum-same-below, sum-none, sum-ones, count-most, every-counted}
+use Rattle.lists.proofs.BelowLaws.{kept-same, map-same}
+use Rattle.memory.proofs.FrameLaws.{lives-but, face-but, live-at-but}
 
 -- a change above the flags leaves the live faces
 pub live-faces-but : (f : ℕ) {lo hi : ℕ} {w w' : List ℕ} → But lo hi w w' → 4 * f ≤ lo → liveFaces f w' ≡ liveFaces f w
@@ -32,16 +35,16 @@ live-sums f w g = sum-map g (faceAt w) (those (lives f w) (below f)) ∙ sum-tho
 -- ---- a list of slots
 
 -- a weight summed over it is summed over its places
-pub sum-slots : (g : ℕ → ℕ) (w : List ℕ) (base n : ℕ) → sum g (slots w base n) ≡ sum (λ i. g (getD w (base + i) 0)) (below n)
+pub sum-slots : (g : ℕ → ℕ) (w : List ℕ) (base n : ℕ) → sum g (stretch w base n) ≡ sum (λ i. g (getD w (base + i) 0)) (below n)
 sum-slots g w base n = sum-map g (λ i. getD w (base + i) 0) (below n)
 
 -- the sums say it all: how many there are, and that each is a live face that holds x
 pub gathered-by : (v f : ℕ) (w : List ℕ) (x base n : ℕ) →
-    ((g : ℕ → ℕ) → sum g (slots w base n) ≡ sum (λ k. cond (liveAt f w x k) (g k) 0) (below f)) → Gathered v f w x base n
+    ((g : ℕ → ℕ) → sum g (stretch w base n) ≡ sum (λ k. cond (liveAt f w x k) (g k) 0) (below f)) → Gathered v f w x base n
 gathered-by v f w x base n sums = record {
   few = omega (arith, sums (λ k. 1), sum-slots (λ k. 1) w base n, sum-ones n, count-most (λ k. liveAt f w x k) f);
   slots-live =
-      every-counted (λ k. ltb k f && liveAt f w x k) (slots w base n)
+      every-counted (λ k. ltb k f && liveAt f w x k) (stretch w base n)
       (sums (λ k. cond (ltb k f && liveAt f w x k) 0 1) ∙ sum-none _ f (λ k l. rw (lt-ltb k f l) (cond-self (liveAt f w x k))));
   sums = sums;
 }
@@ -53,12 +56,12 @@ gathered-but {v} {f} {lo} {hi} {w} {w'} {x} {base} {n} but above same h =
     gathered-by v f w' x base n (λ g.
     ap (sum g) (map-same (λ i. getD w' (base + i) 0) (λ i. getD w (base + i) 0) n same)
     ∙ h .sums g
-    ∙ sum-same _ _ f (λ k l. ap (λ (b : Bool). cond b (g k) 0) (sym (live-at-but but above k l x))))
+    ∙ sum-same-below _ _ f (λ k l. ap (λ (b : Bool). cond b (g k) 0) (sym (live-at-but but above k l x))))
 
 -- a weight summed over the gathered faces is summed over the live faces that hold the point
 pub gathered-sums : {v f : ℕ} {w : List ℕ} {x base n : ℕ} → Gathered v f w x base n → (g : Face → ℕ) →
-    sum (λ k. g (faceAt w k)) (slots w base n) ≡ sum (λ p. cond (holds x p) (g p) 0) (liveFaces f w)
+    sum (λ k. g (faceAt w k)) (stretch w base n) ≡ sum (λ p. cond (holds x p) (g p) 0) (liveFaces f w)
 gathered-sums {v} {f} {w} {x} {base} {n} h g =
     h .sums (λ k. g (faceAt w k))
-    ∙ sum-same _ _ f (λ k l. cond-and (lives f w k) (holds x (faceAt w k)) (g (faceAt w k)))
+    ∙ sum-same-below _ _ f (λ k l. cond-and (lives f w k) (holds x (faceAt w k)) (g (faceAt w k)))
     ∙ sym (live-sums f w (λ p. cond (holds x p) (g p) 0))

@@ -10,11 +10,13 @@ use lib.Dec.{eqb}
 use lib.ListN.{length, getD, set, length-set}
 use lib.Seq.{getD-set-same, getD-set-other}
 use borrow.Author.Tests.{eqb-true, eqb-false, not-true}
-use Rattle.surface.specs.Lists.{sum, below}
-use Rattle.mesh.specs.Memory.{corner, next, first, But}
-use Rattle.mesh.specs.Chains.{Linked, Chains}
-use Rattle.mesh.proofs.TestLaws.{by-test, not-two, never-both, never-self, passes, cond-apart, cond-none}
-use Rattle.mesh.proofs.Sums.{one-kept, sum-zero, sum-same, sum-none, sum-add, sum-single}
+use Rattle.lists.specs.Lists.{sum, below}
+use Rattle.memory.specs.Memory.{corner, next, first}
+use Rattle.lists.specs.Frames.{But}
+use Rattle.mesh.specs.Contracts.Chains.{Linked, Chains}
+use Rattle.lists.proofs.CondLaws.{by-outcome, not-two, never-both, never-self, passes, cond-apart, cond-none}
+use Rattle.lists.proofs.BelowSums.{one-kept, sum-same-below, sum-none, sum-add, sum-single}
+use Rattle.lists.proofs.SumLaws.{sum-zero}
 
 -- a chain runs on as it was where the links of its corners stay
 linked-kept : (f : ℕ) (w w' : List ℕ) (kept : ℕ → Bool) →
@@ -41,7 +43,7 @@ chains-keep v f w w' listed listed' nexts firsts corners h = record {
       rw (firsts x l)
       (linked-kept f w w' (λ c. true) (λ c m t. nexts c m) (first f w x) (h .chain x) (sum-zero (h .chain x)) (h .linked x l));
   sums = λ x l g.
-      h .sums x l g ∙ sum-same _ _ (3 * f) (λ c m. ap (λ (b : Bool). cond b (g c) 0) (corners c m x));
+      h .sums x l g ∙ sum-same-below _ _ (3 * f) (λ c m. ap (λ (b : Bool). cond b (g c) 0) (corners c m x));
 }
 
 -- a list of the same corners, said another way
@@ -76,7 +78,7 @@ chains-rename v f w listed c y l free =
     (λ d m. getD-set-other w c (4 * f + d) y 0 (omega arith))
     (λ x m. getD-set-other w c (7 * f + x) y 0 (omega arith))
     (λ d m x.
-    by-test (λ b. (listed d && eqb (corner w d) x) ≡ (listed d && eqb (corner (set w c y) d) x)) (eqb d c)
+    by-outcome (λ b. (listed d && eqb (corner w d) x) ≡ (listed d && eqb (corner (set w c y) d) x)) (eqb d c)
     (λ e. let here : listed d ≡ false = rw (eqb-true d c e) free in rw here)
     (λ e. rw (getD-set-other w c d y 0 (eqb-false d c e))))
 
@@ -90,7 +92,7 @@ module _ (v f : ℕ) (w : List ℕ) (listed : ℕ → Bool) (x : ℕ) (x-below :
   dropped-linked : (y : ℕ) → y < v → Linked f dropped (first f dropped y) (cond (eqb x y) [] (h .chain y))
   unfolding Linked
   dropped-linked y l =
-      by-test (λ b. Linked f dropped (first f dropped y) (cond b [] (h .chain y))) (eqb x y)
+      by-outcome (λ b. Linked f dropped (first f dropped y) (cond b [] (h .chain y))) (eqb x y)
       (λ e. rw (← (eqb-true x y e)) (getD-set-same w (7 * f + x) 0 0 (omega arith)))
       (λ e.
       let apart : x ≢ y = eqb-false x y e in
@@ -104,7 +106,7 @@ module _ (v f : ℕ) (w : List ℕ) (listed : ℕ → Bool) (x : ℕ) (x-below :
       ≡ sum (λ c. cond (listed c && not (eqb (corner w c) x) && eqb (corner dropped c) y) (g c) 0) (below (3 * f))
   unfolding sum
   dropped-sums y l g =
-      by-test
+      by-outcome
       (λ b.
       sum g (cond b [] (h .chain y))
       ≡ sum (λ c. cond (listed c && not (eqb (corner w c) x) && eqb (corner dropped c) y) (g c) 0) (below (3 * f)))
@@ -115,7 +117,7 @@ module _ (v f : ℕ) (w : List ℕ) (listed : ℕ → Bool) (x : ℕ) (x-below :
       rw (getD-set-other w (7 * f + x) c 0 0 (omega arith), ← (eqb-true x y e)) (never-self (listed c) (eqb (corner w c) x) (g c)))))
       (λ e.
       h .sums y l g
-      ∙ sum-same _ _ (3 * f) (λ c m.
+      ∙ sum-same-below _ _ (3 * f) (λ c m.
       rw (
         getD-set-other w (7 * f + x) c 0 0 (omega arith),
         never-both (listed c) (eqb (corner w c) x) (eqb (corner w c) y) (not-two (corner w c) x y (eqb-false x y e)),
@@ -164,7 +166,7 @@ module _ (v f : ℕ) (w : List ℕ) (listed : ℕ → Bool) (c x : ℕ) (c-below
   pushed-linked : (y : ℕ) → y < v → Linked f pushed (first f pushed y) (cond (eqb x y) (c ∷ h .chain y) (h .chain y))
   unfolding Linked
   pushed-linked y l =
-      by-test (λ b. Linked f pushed (first f pushed y) (cond b (c ∷ h .chain y) (h .chain y))) (eqb x y)
+      by-outcome (λ b. Linked f pushed (first f pushed y) (cond b (c ∷ h .chain y) (h .chain y))) (eqb x y)
       (λ e.
       let same : x ≡ y = eqb-true x y e in
       (ap (first f pushed) (sym same) ∙ pushed-first, c-below, rw (pushed-next ∙ ap (first f w) same) (still-linked y l)))
@@ -181,7 +183,7 @@ module _ (v f : ℕ) (w : List ℕ) (listed : ℕ → Bool) (c x : ℕ) (c-below
       let one : ℕ → ℕ = λ d. cond (eqb (corner w d) y) (g d) 0 in
       let all : ℕ → ℕ = λ d. cond ((listed d || eqb d c) && eqb (corner pushed d) y) (g d) 0 in
       let new : sum all (below (3 * f)) ≡ sum (λ d. cond (eqb d c) (one d) 0 + old d) (below (3 * f)) =
-      sum-same _ _ (3 * f) (λ d m.
+      sum-same-below _ _ (3 * f) (λ d m.
       rw (pushed-other d (omega arith) (omega arith))
       (cond-apart (listed d) (eqb d c) (eqb (corner w d) y) (g d) (λ e. rw (eqb-true d c e) free))) in
       let single : sum (λ d. cond (eqb d c) (one d) 0) (below (3 * f)) ≡ cond (eqb x y) (g c) 0 =

@@ -9,13 +9,14 @@ use mathlib.Core.Bool.{true, _&&_, cond}
 use mathlib.Mathlib.Data.Bool.Basic.{and-elim-left, and-elim-right}
 use lib.Dec.{eqb}
 use borrow.Author.Tests.{eqb-true, eqb-false, ltb-true}
-use Rattle.surface.specs.declared.Face.{Face}
-use Rattle.surface.specs.Lists.{sum, below}
-use Rattle.surface.specs.Faces.{holds, proper}
-use Rattle.mesh.specs.Memory.{corner, lives, faceAt, Proper}
-use Rattle.mesh.specs.Around.{liveAt}
-use Rattle.mesh.proofs.TestLaws.{by-test, eqb-sym, differ, not-two, cond-three}
-use Rattle.mesh.proofs.Sums.{sum-same, sum-threes}
+use Rattle.walk.specs.declared.Face.{Face}
+use Rattle.lists.specs.Lists.{sum, below}
+use Rattle.walk.specs.Faces.{holds, proper, faceAt}
+use Rattle.memory.specs.Memory.{corner, lives, Proper}
+use Rattle.memory.specs.Memory.{liveAt}
+use Rattle.lists.proofs.CondLaws.{by-outcome, eqb-sym, not-two, cond-three}
+use Rattle.lists.proofs.TestLaws.{differ}
+use Rattle.lists.proofs.BelowSums.{sum-same-below, sum-threes}
 
 -- what a proper face is, said of its points
 pub record Points (v : ℕ) (p : Face) : Type 0 where
@@ -41,11 +42,11 @@ points v p h = record {
 pub corner-below : (v : ℕ) (w : List ℕ) (c : ℕ) → proper v (faceAt w (c / 3)) ≡ true → corner w c < v
 corner-below v w c h =
     let p : Points v (faceAt w (c / 3)) = points v (faceAt w (c / 3)) h in
-    by-test (λ b. corner w c < v) (eqb c (3 * (c / 3)))
+    by-outcome (λ b. corner w c < v) (eqb c (3 * (c / 3)))
     (λ a. rw (eqb-true c (3 * (c / 3)) a) (p .a-below))
     (λ a.
     let not-a : c ≢ 3 * (c / 3) = eqb-false c (3 * (c / 3)) a in
-    by-test (λ b. corner w c < v) (eqb c (3 * (c / 3) + 1))
+    by-outcome (λ b. corner w c < v) (eqb c (3 * (c / 3) + 1))
     (λ b. rw (eqb-true c (3 * (c / 3) + 1) b) (p .b-below))
     (λ b.
     let not-b : c ≢ 3 * (c / 3) + 1 = eqb-false c (3 * (c / 3) + 1) b in
@@ -67,12 +68,12 @@ pub corners-faces : (v f : ℕ) (w : List ℕ) → Proper v f w → (x : ℕ) (g
     ≡ sum (λ k. cond (liveAt f w x k) (g k) 0) (below f)
 corners-faces v f w all x g =
     sum-threes (λ c. cond (lives f w (c / 3) && eqb (corner w c) x) (g (c / 3)) 0) f
-    ∙ sum-same _ _ f (λ k l.
+    ∙ sum-same-below _ _ f (λ k l.
     let at-a : 3 * k / 3 ≡ k = omega arith in
     let at-b : (3 * k + 1) / 3 ≡ k = omega arith in
     let at-c : (3 * k + 2) / 3 ≡ k = omega arith in
     rw (at-a, at-b, at-c)
-    (by-test
+    (by-outcome
     (λ b.
     cond (b && eqb (corner w (3 * k)) x) (g k) 0 + cond (b && eqb (corner w (3 * k + 1)) x) (g k) 0
     + cond (b && eqb (corner w (3 * k + 2)) x) (g k) 0

@@ -8,13 +8,14 @@ use mathlib.Core.Bool.{Bool, true, false, _||_}
 use lib.Dec.{leb, eqb}
 use lib.ListN.{set}
 use borrow.Author.Tests.{le-leb, lt-leb, leb-true, leb-false, eqb-true, eqb-false}
-use Rattle.surface.specs.Lists.{sum}
-use Rattle.mesh.specs.Memory.{corner, first, Room, But}
-use Rattle.mesh.specs.Chains.{Linked, Chains}
-use Rattle.mesh.specs.Laying.{Joined}
-use Rattle.mesh.proofs.TestLaws.{by-test}
-use Rattle.mesh.proofs.Sums.{sum-none}
-use Rattle.mesh.proofs.Frames.{but-refl, but-then, but-set}
+use Rattle.lists.specs.Lists.{sum}
+use Rattle.memory.specs.Memory.{corner, first, Room}
+use Rattle.lists.specs.Frames.{But}
+use Rattle.mesh.specs.Contracts.Chains.{Linked, Chains}
+use Rattle.mesh.specs.Contracts.Laying.{Joined}
+use Rattle.lists.proofs.CondLaws.{by-outcome}
+use Rattle.lists.proofs.BelowSums.{sum-none}
+use Rattle.lists.proofs.FrameLaws.{but-refl, but-then, but-set}
 use Rattle.mesh.proofs.ChainLaws.{chains-listed, chains-push}
 
 -- where no point has a link no corner is listed
@@ -30,10 +31,10 @@ chains-none v f w listed firsts none = record {
 -- the numbers from c on, with the one before c
 one-before : (c d k : ℕ) → c ≡ d + 1 → (leb c k || eqb k d) ≡ leb d k
 one-before c d k e =
-    by-test (λ b. (b || eqb k d) ≡ leb d k) (leb c k)
+    by-outcome (λ b. (b || eqb k d) ≡ leb d k) (leb c k)
     (λ t. sym (le-leb d k (omega (arith, leb-true c k t))))
     (λ t.
-    by-test (λ b. b ≡ leb d k) (eqb k d)
+    by-outcome (λ b. b ≡ leb d k) (eqb k d)
     (λ q. sym (le-leb d k (omega (arith, eqb-true k d q))))
     (λ q. sym (lt-leb d k (omega (arith, leb-false c k t, eqb-false k d q)))))
 

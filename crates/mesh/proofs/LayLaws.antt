@@ -8,14 +8,17 @@ use mathlib.Core.List.{List, map}
 use mathlib.Core.Bool.{true}
 use lib.ListN.{getD}
 use borrow.Author.Tests.{eq-eqb}
-use Rattle.surface.specs.Lists.{every, below}
-use Rattle.surface.specs.Faces.{proper, facesOf}
-use Rattle.mesh.specs.Memory.{corner, live, first, lives, faceAt, liveFaces, Room}
-use Rattle.mesh.specs.Chains.{Tidy}
-use Rattle.mesh.specs.Laying.{Written, Joined}
-use Rattle.mesh.specs.Laid.{Laid}
-use Rattle.mesh.proofs.BelowLaws.{every-at, kept-same, those-true}
-use Rattle.mesh.proofs.Frames.{but-then, but-widen, face-but}
+use Rattle.lists.specs.Lists.{every, below}
+use Rattle.walk.specs.Faces.{proper, facesOf, faceAt}
+use Rattle.memory.specs.Memory.{corner, live, first, lives, liveFaces, Room}
+use Rattle.mesh.specs.Contracts.Chains.{Tidy}
+use Rattle.lists.specs.Frames.{Written}
+use Rattle.mesh.specs.Contracts.Laying.{Joined}
+use Rattle.mesh.specs.Contracts.Laid.{Laid}
+use Rattle.lists.proofs.BelowLaws.{every-at, kept-same}
+use Rattle.lists.proofs.ThoseLaws.{those-all}
+use Rattle.lists.proofs.FrameLaws.{but-then, but-widen}
+use Rattle.memory.proofs.FrameLaws.{face-but}
 use Rattle.mesh.proofs.FaceCorners.{corner-below}
 
 -- w₁ has the corners, w₂ the flags too, w₃ zeros for first links, kinds and marks, and w₄ the links
@@ -62,7 +65,7 @@ module _ (faces : List ℕ) {v f : ℕ} {w w₁ w₂ w₃ : List ℕ} (room : Ro
     unfolding liveFaces
     laid-faces =
         kept-same (faceAt w₄) _ (lives f w₄) (λ k. true) f all-live (λ k l. face-but (joined .but) (omega arith) k l ∙ face-is k l)
-        ∙ ap (map _) (those-true (below f))
+        ∙ ap (map _) (those-all (below f))
 
     pub laid : Laid v f faces w w₄
     laid = record {

@@ -7,14 +7,15 @@ use mathlib.Core.List.{List}
 use mathlib.Core.Bool.{Bool, true, _&&_, cond}
 use lib.Dec.{eqb}
 use borrow.Author.Tests.{eq-eqb, eqb-true}
-use Rattle.surface.specs.Lists.{sum, count, below}
-use Rattle.surface.specs.Faces.{holds, proper}
-use Rattle.mesh.specs.Memory.{corner, lives, faceAt, Unmarked, But}
-use Rattle.mesh.specs.Chains.{Tidy}
-use Rattle.mesh.specs.Around.{liveAt}
-use Rattle.mesh.proofs.TestLaws.{cond-swap, cond-implied, cond-within}
-use Rattle.mesh.proofs.Sums.{sum-same, sum-single}
-use Rattle.mesh.proofs.Frames.{lives-but, face-but}
+use Rattle.lists.specs.Lists.{sum, count, below}
+use Rattle.walk.specs.Faces.{holds, proper, faceAt}
+use Rattle.memory.specs.Memory.{corner, lives, Unmarked}
+use Rattle.lists.specs.Frames.{But}
+use Rattle.mesh.specs.Contracts.Chains.{Tidy}
+use Rattle.memory.specs.Memory.{liveAt}
+use Rattle.lists.proofs.CondLaws.{cond-swap, cond-implied, cond-within}
+use Rattle.lists.proofs.BelowSums.{sum-same-below, sum-single}
+use Rattle.memory.proofs.FrameLaws.{lives-but, face-but}
 use Rattle.mesh.proofs.ChainLaws.{chains-but}
 use Rattle.mesh.proofs.FaceCorners.{corner-below, corners-faces}
 
@@ -39,7 +40,7 @@ module _ {v f : ℕ} {w : List ℕ} (t : Tidy v f w) where
       sum (λ c. cond (lives f w (c / 3)) (g (c / 3)) 0) (t .chains .chain x) ≡ sum (λ k. cond (liveAt f w x k) (g k) 0) (below f)
   around x l g =
       t .chains .sums x l (λ c. cond (lives f w (c / 3)) (g (c / 3)) 0)
-      ∙ sum-same _ _ (3 * f) (λ c m. cond-within (t .listed c) (lives f w (c / 3)) (eqb (corner w c) x) (g (c / 3)) (t .live-listed c m))
+      ∙ sum-same-below _ _ (3 * f) (λ c m. cond-within (t .listed c) (lives f w (c / 3)) (eqb (corner w c) x) (g (c / 3)) (t .live-listed c m))
       ∙ corners-faces v f w (t .faces-proper) x g
 
   -- Document 01, "True after every step": a live face is listed once at each of its points, and at no other.
@@ -49,7 +50,7 @@ module _ {v f : ℕ} {w : List ℕ} (t : Tidy v f w) where
       ap (λ (g : ℕ → ℕ). sum g (t .chains .chain x))
       (fun-ext (λ c. cond-implied (eqb (c / 3) k) (lives f w (c / 3)) 1 (λ e. rw (eqb-true (c / 3) k e) live)))
       ∙ around x m (λ j. cond (eqb j k) 1 0)
-      ∙ sum-same _ _ f (λ j n. cond-swap (liveAt f w x j) (eqb j k) 1)
+      ∙ sum-same-below _ _ f (λ j n. cond-swap (liveAt f w x j) (eqb j k) 1)
       ∙ sum-single (λ j. cond (liveAt f w x j) 1 0) k f l
       ∙ ap (λ (b : Bool). cond (b && holds x (faceAt w k)) 1 0) live
 
@@ -57,6 +58,6 @@ module _ {v f : ℕ} {w : List ℕ} (t : Tidy v f w) where
   pub corner-once : (c : ℕ) → c < 3 * f → lives f w (c / 3) ≡ true → count (λ d. eqb d c) (t .chains .chain (corner w c)) ≡ 1
   corner-once c l live =
       t .chains .sums (corner w c) (corner-below v w c (t .faces-proper (c / 3) (omega arith) live)) (λ d. cond (eqb d c) 1 0)
-      ∙ sum-same _ _ (3 * f) (λ d n. cond-swap (t .listed d && eqb (corner w d) (corner w c)) (eqb d c) 1)
+      ∙ sum-same-below _ _ (3 * f) (λ d n. cond-swap (t .listed d && eqb (corner w d) (corner w c)) (eqb d c) 1)
       ∙ sum-single (λ d. cond (t .listed d && eqb (corner w d) (corner w c)) 1 0) c (3 * f) l
       ∙ rw (t .live-listed c l live, eq-eqb (corner w c) (corner w c) refl)

@@ -12,12 +12,16 @@ use lib.Dec.{eqb}
 use lib.ListN.{length, getD, set}
 use lib.Seq.{getD-set-same, getD-set-other}
 use borrow.Author.Tests.{eq-eqb, ne-eqb}
-use Rattle.surface.specs.Lists.{sum, below}
-use Rattle.mesh.specs.Memory.{corner, next, first, live, lives, But}
-use Rattle.mesh.specs.Chains.{Linked, Tidy}
-use Rattle.mesh.specs.Around.{slots, liveAt, Collected}
-use Rattle.mesh.proofs.Sums.{sum-length, sum-next, sum-same, sum-ones, count-most}
-use Rattle.mesh.proofs.Frames.{but-refl, but-then, but-set, live-at-but}
+use Rattle.lists.specs.Lists.{sum, below, stretch}
+use Rattle.memory.specs.Memory.{corner, next, first, live, lives}
+use Rattle.lists.specs.Frames.{But}
+use Rattle.mesh.specs.Contracts.Chains.{Linked, Tidy}
+use Rattle.mesh.specs.Contracts.Around.{Collected}
+use Rattle.memory.specs.Memory.{liveAt}
+use Rattle.lists.proofs.SumLaws.{sum-length, sum-below}
+use Rattle.lists.proofs.BelowSums.{sum-same-below, sum-ones, count-most}
+use Rattle.lists.proofs.FrameLaws.{but-refl, but-then, but-set}
+use Rattle.memory.proofs.FrameLaws.{live-at-but}
 use Rattle.mesh.proofs.TidyLaws.{around}
 use Rattle.mesh.proofs.AroundLaws.{sum-slots, gathered-by}
 
@@ -56,13 +60,13 @@ ahead f w link (c ∷ cs) more h =
 
 -- one slot more in a list of them
 slots-more : (g : ℕ → ℕ) (w : List ℕ) (base n k : ℕ) → base + n < length w →
-    sum g (slots (set w (base + n) k) base (n + 1)) ≡ sum g (slots w base n) + g k
+    sum g (stretch (set w (base + n) k) base (n + 1)) ≡ sum g (stretch w base n) + g k
 slots-more g w base n k fits =
     let w' : List ℕ = set w (base + n) k in
     let before : sum (λ i. g (getD w' (base + i) 0)) (below n) ≡ sum (λ i. g (getD w (base + i) 0)) (below n) =
-    sum-same _ _ n (λ i l. ap g (getD-set-other w (base + n) (base + i) k 0 (omega arith))) in
+    sum-same-below _ _ n (λ i l. ap g (getD-set-other w (base + n) (base + i) k 0 (omega arith))) in
     let here : g (getD w' (base + n) 0) ≡ g k = ap g (getD-set-same w (base + n) k 0 fits) in
-    rw add-one (omega (arith, sum-slots g w' base (suc n), sum-slots g w base n, sum-next (λ i. g (getD w' (base + i) 0)) n))
+    rw add-one (omega (arith, sum-slots g w' base (suc n), sum-slots g w base n, sum-below (λ i. g (getD w' (base + i) 0)) n))
 
 -- ---- the walk
 
@@ -73,7 +77,7 @@ pub record Walk (v f : ℕ) (w₀ : List ℕ) (x base : ℕ) (w : List ℕ) (n l
   pub short : length left ≤ 3 * f
   pub but : But base (base + f) w₀ w
   pub sums : (g : ℕ → ℕ) →
-      sum g (slots w base n) + sum (λ c. cond (lives f w₀ (c / 3)) (g (c / 3)) 0) left
+      sum g (stretch w base n) + sum (λ c. cond (lives f w₀ (c / 3)) (g (c / 3)) 0) left
       ≡ sum (λ k. cond (liveAt f w₀ x k) (g k) 0) (below f)
 
 -- at the start nothing is listed, and the whole chain is ahead
@@ -101,7 +105,7 @@ module _ {v f : ℕ} {w₀ : List ℕ} {x base : ℕ} {w : List ℕ} {n link : �
 
   -- the sums with the corner apart from what is ahead of it
   sums-ahead : (g : ℕ → ℕ) →
-      sum g (slots w base n)
+      sum g (stretch w base n)
       + (cond (lives f w₀ ((link - 1) / 3)) (g ((link - 1) / 3)) 0 + sum (λ c. cond (lives f w₀ (c / 3)) (g (c / 3)) 0) (next-ahead .rest))
       ≡ sum (λ k. cond (liveAt f w₀ x k) (g k) 0) (below f)
   unfolding sum
@@ -140,7 +144,7 @@ module _ {v f : ℕ} {w₀ : List ℕ} {x base : ℕ} {w : List ℕ} {n link : �
 
       module _ (alive : flag ≡ 1) where
         sums-alive : (g : ℕ → ℕ) →
-            sum g (slots w base n) + (g ((link - 1) / 3) + sum (λ c. cond (lives f w₀ (c / 3)) (g (c / 3)) 0) (next-ahead .rest))
+            sum g (stretch w base n) + (g ((link - 1) / 3) + sum (λ c. cond (lives f w₀ (c / 3)) (g (c / 3)) 0) (next-ahead .rest))
             ≡ sum (λ k. cond (liveAt f w₀ x k) (g k) 0) (below f)
         sums-alive g = rw (eq-eqb _ _ (sym flag-was ∙ alive)) at (sums-ahead g)
 
@@ -168,12 +172,12 @@ at-end f w link (c ∷ cs) none h = absurd (omega arith)
 
 module _ {v f : ℕ} {w₀ : List ℕ} {x base : ℕ} {w : List ℕ} {n link : ℕ} (above : 7 * f ≤ base) (none : link ≡ 0)
     (h : Walk v f w₀ x base w n link) where
-  all-sums : (g : ℕ → ℕ) → sum g (slots w base n) ≡ sum (λ k. cond (liveAt f w x k) (g k) 0) (below f)
+  all-sums : (g : ℕ → ℕ) → sum g (stretch w base n) ≡ sum (λ k. cond (liveAt f w x k) (g k) 0) (below f)
   unfolding sum
   all-sums g =
       sym (add-zero _)
       ∙ (rw (at-end f w₀ link (h .left) none (h .linked)) at (h .sums g))
-      ∙ sum-same _ _ f (λ k l. ap (λ (b : Bool). cond b (g k) 0) (sym (live-at-but (h .but) (omega arith) k l x)))
+      ∙ sum-same-below _ _ f (λ k l. ap (λ (b : Bool). cond b (g k) 0) (sym (live-at-but (h .but) (omega arith) k l x)))
 
   -- so what is listed is what is around the point
   pub collected : Collected v f w₀ x base w n

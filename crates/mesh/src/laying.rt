@@ -3,13 +3,14 @@ ghost use mathlib.Core.Path.{_≡_};
 ghost use mathlib.Core.Bool.{true};
 ghost use Prim.Native.Nat.{ℕ, _+_, _*_, _≤_, _<_};
 ghost use lib.ListN.{length, getD};
-ghost use Rattle.surface.specs.Lists.{every};
-ghost use Rattle.surface.specs.Faces.{proper, facesOf};
-ghost use Rattle.mesh.specs.Memory.{Room, corner, first};
-ghost use Rattle.mesh.specs.Laying.{Written, Joined};
-ghost use Rattle.mesh.specs.Laid.{Laid};
-use crate::cells::corner_at;
+ghost use Rattle.lists.specs.Lists.{every};
+ghost use Rattle.walk.specs.Faces.{proper, facesOf};
+ghost use Rattle.memory.specs.Memory.{Room, corner, first};
+ghost use Rattle.lists.specs.Frames.{Written};
+ghost use Rattle.mesh.specs.Contracts.Laying.{Joined};
+ghost use Rattle.mesh.specs.Contracts.Laid.{Laid};
 use crate::links::push_corner;
+use memory::corner_at;
 
 // The first n numbers of a list, to the first n cells.
 fn copy(cells: &[u32], w: &mut [u32], n: usize)

@@ -2,14 +2,14 @@
 ghost use mathlib.Core.Path.{_≡_};
 ghost use Prim.Native.Nat.{_+_, _*_, _^_, _≤_, _<_};
 ghost use lib.ListN.{length, set};
-ghost use Rattle.mesh.specs.Memory.{first};
-ghost use Rattle.mesh.specs.Chains.{Tidy};
-ghost use Rattle.mesh.specs.Around.{Collected};
-use crate::cells::first_at;
-use crate::cells::live_at;
-use crate::cells::next_at;
-use crate::cells::set_first;
-use crate::cells::set_next;
+ghost use Rattle.memory.specs.Memory.{first};
+ghost use Rattle.mesh.specs.Contracts.Chains.{Tidy};
+ghost use Rattle.mesh.specs.Contracts.Around.{Collected};
+use memory::first_at;
+use memory::live_at;
+use memory::next_at;
+use memory::set_first;
+use memory::set_next;
 
 // Puts a corner at the head of a point's chain.
 pub fn push_corner(w: &mut [u32], f: usize, c: usize, x: usize)

@@ -1,6 +1,6 @@
 -- Where a pair's point goes (document 01, "Its place is the solved point").
 use mathlib.Core.Bool.{Bool, _&&_, cond}
-use mathlib.Core.List.{List, [], _∷_}
+use mathlib.Core.List.{List}
 use lib.ListN.{getD}
 use lib.Signed.{ltZ}
 use lib.Ieee.{Float, nan, binary32, binary64, add, mul, neg, lt, le, ofBits}

@@ -6,13 +6,13 @@ use mathlib.Core.Path.{ap, _∙_}
 use mathlib.Core.List.{List}
 use lib.ListN.{length}
 use lib.Ieee.{Float}
-use Rattle.mesh.specs.Memory.{Room}
-use Rattle.mesh.specs.Laying.{Written}
-use Rattle.mesh.proofs.Frames.{but-then, but-widen}
+use Rattle.memory.specs.Memory.{Room}
+use Rattle.lists.specs.Frames.{Written}
+use Rattle.lists.proofs.FrameLaws.{but-then, but-widen}
 use Rattle.mesh.proofs.AroundLaws.{sum-slots}
-use Rattle.pairs.proofs.BelowLaws.{sum-agree}
-use Rattle.heap.specs.Memory.{slotAt}
-use Rattle.queue.specs.Changes.{Emptied}
+use Rattle.lists.proofs.BelowSums.{sum-same-below}
+use Rattle.memory.specs.Entries.{slotAt}
+use Rattle.queue.specs.Contracts.Changes.{Emptied}
 use Rattle.queue.proofs.EntryLaws.{room-but}
 
 pub emptied : {v f : ℕ} {w w' w'' : List ℕ} {q : List Float} → Room v f w → 10 * v + 3 * f ≤ length q →
@@ -26,7 +26,7 @@ emptied {v} {f} {w} {w'} {w''} room costs-long stamps order =
         costs-long = costs-long;
         few = zero-le;
         each-once = λ g.
-            sum-slots g w'' (15 * f + 5 * v) (3 * f) ∙ sum-agree (λ i. g (slotAt v f w'' i)) g (3 * f) (λ i inside. ap g (order .cells i inside));
+            sum-slots g w'' (15 * f + 5 * v) (3 * f) ∙ sum-same-below (λ i. g (slotAt v f w'' i)) g (3 * f) (λ i inside. ap g (order .cells i inside));
         ordered = λ k positive inside low. absurd (omega arith);
       };
     }

@@ -8,15 +8,15 @@ use mathlib.Core.Bool.{Bool, true, _&&_, cond}
 use lib.Dec.{eqb}
 use lib.ListN.{length}
 use lib.Ieee.{Float}
-use Rattle.surface.specs.declared.Pair.{Pair}
-use Rattle.surface.specs.Lists.{sum, those}
-use Rattle.surface.proofs.SumLaws.{sum-map, sum-those, sum-length}
-use Rattle.surface.proofs.SamePairs.{pair-path}
-use Rattle.mesh.specs.Memory.{Room, But}
-use Rattle.pairs.specs.Memory.{pairAt}
-use Rattle.heap.specs.Memory.{slotAt, queued}
-use Rattle.queue.specs.Memory.{stamp, isCurrent, isQueued, openIn}
-use Rattle.queue.specs.Queued.{Queue, Named, Entered}
+use Rattle.walk.specs.declared.Pair.{Pair}
+use Rattle.lists.specs.Lists.{sum, those}
+use Rattle.lists.proofs.SumLaws.{sum-map, sum-those, sum-length}
+use Rattle.walk.proofs.SamePairs.{pair-path}
+use Rattle.memory.specs.Memory.{Room}
+use Rattle.lists.specs.Frames.{But}
+use Rattle.memory.specs.Entries.{pairAt, slotAt, queued, stamp}
+use Rattle.queue.specs.State.{isCurrent, isQueued, openIn}
+use Rattle.queue.specs.Contracts.Queued.{Queue, Named, Entered}
 use Rattle.queue.proofs.OrderLaws.{sum-members, place-queued, queued-slot}
 
 -- a weight of a slot where it is current, else nothing, and a weight of its pair

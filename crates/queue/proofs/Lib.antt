@@ -1,4 +1,7 @@
 -- Laws of the queue, leaves first.
+pub mod HeapLaws
+pub mod SwapLaws
+pub mod RootLaws
 pub mod OrderLaws
 pub mod EntryLaws
 pub mod EmptyLaws

@@ -6,23 +6,23 @@ use native.Mathlib.Numerals.{add-one}
 use native.Mathlib.Omega.{arith}
 use mathlib.Core.Path.{_≡_, refl, sym, ap, ap₂, subst, _∙_}
 use mathlib.Core.List.{List, [], _∷_}
-use mathlib.Core.Bool.{Bool, true, false, cond, false≢true}
+use mathlib.Core.Bool.{Bool, true, cond, false≢true}
 use mathlib.Mathlib.Data.Bool.Basic.{or-inl, or-inr}
 use lib.Dec.{ltb, eqb}
 use lib.ListN.{length, getD, length-map}
 use borrow.Author.Tests.{eq-eqb, eqb-true, lt-ltb, ltb-true}
-use Rattle.surface.specs.Lists.{sum, count, every, some, below}
-use Rattle.surface.proofs.SumLaws.{by-test, sum-zero, some-count, some-from, length-below}
-use Rattle.surface.proofs.ListLaws.{count-below}
-use Rattle.surface.proofs.TestLaws.{flag-true}
-use Rattle.mesh.proofs.Sums.{every-counted}
-use Rattle.mesh.proofs.BelowLaws.{map-same}
-use Rattle.pairs.proofs.BelowLaws.{read-below}
-use Rattle.heap.proofs.PopLaws as pop-laws
-use Rattle.heap.proofs.PopLaws.{sifted-more}
-use Rattle.heap.specs.Memory.{slotAt, queued}
-use Rattle.heap.specs.Order.{Sifted}
-use Rattle.queue.specs.Memory.{isQueued}
+use Rattle.lists.specs.Lists.{sum, count, every, some, below}
+use Rattle.lists.proofs.TestLaws.{by-test, flag-true}
+use Rattle.lists.proofs.SumLaws.{sum-zero, some-count, some-from, length-below}
+use Rattle.lists.proofs.ListLaws.{count-below}
+use Rattle.lists.proofs.BelowSums.{every-counted}
+use Rattle.lists.proofs.BelowLaws.{map-same}
+use Rattle.lists.proofs.EachLaws.{getD-each}
+use Rattle.queue.proofs.RootLaws as pop-laws
+use Rattle.queue.proofs.RootLaws.{sifted-more}
+use Rattle.memory.specs.Entries.{slotAt, queued}
+use Rattle.queue.specs.Contracts.Order.{Sifted}
+use Rattle.queue.specs.State.{isQueued}
 
 -- ---- the members of a list
 
@@ -72,13 +72,13 @@ module _ (v f : ℕ) where
   pub place-queued : (w : List ℕ) {i n : ℕ} → i < n → isQueued v f w n (slotAt v f w i) ≡ true
   place-queued w {i} {n} inside =
       some-from (eqb (slotAt v f w i)) 0 (queued v f w n) i (rw queued-length inside)
-      (rw (read-below (slotAt v f w) n i 0 inside) (eq-eqb (slotAt v f w i) (slotAt v f w i) refl))
+      (rw (getD-each (slotAt v f w) n i 0 inside) (eq-eqb (slotAt v f w i) (slotAt v f w i) refl))
 
   pub queued-place : (w : List ℕ) (n s : ℕ) → isQueued v f w n s ≡ true → (i : ℕ) × (i < n) × (slotAt v f w i ≡ s)
   queued-place w n s there =
       let (i, inside, same) = some-at (eqb s) 0 (queued v f w n) there in
       let within : i < n = rw queued-length at inside in
-      (i, within, sym (read-below (slotAt v f w) n i 0 within) ∙ sym (eqb-true s _ same))
+      (i, within, sym (getD-each (slotAt v f w) n i 0 within) ∙ sym (eqb-true s _ same))
 
   pub queued-more : (w : List ℕ) (s : ℕ) {n m : ℕ} → n ≤ m → isQueued v f w n s ≡ true → isQueued v f w m s ≡ true
   queued-more w s {n} {m} less there =

@@ -7,15 +7,16 @@ use mathlib.Core.List.{List}
 use lib.Ieee.{Float}
 use lib.Dec.{ltb}
 use borrow.Author.Tests.{lt-ltb}
-use Rattle.surface.specs.Lists.{sum, below}
-use Rattle.mesh.specs.Memory.{But}
-use Rattle.mesh.proofs.Frames.{but-then, but-widen}
-use Rattle.heap.specs.Memory.{slotAt, queued, HeapFrom}
-use Rattle.heap.specs.Order.{Slotted, Sifted}
-use Rattle.queue.specs.Queued.{Queue}
-use Rattle.queue.specs.Changes.{Popped}
-use Rattle.heap.proofs.PopLaws.{slotted-fewer, root-least, exchanged-sifted, exchanged-heap, exchanged-sums}
-use Rattle.heap.proofs.SwapLaws.{swapped, sifted-slotted}
+use Rattle.lists.specs.Lists.{sum, below}
+use Rattle.lists.specs.Frames.{But}
+use Rattle.lists.proofs.FrameLaws.{but-then, but-widen}
+use Rattle.memory.specs.Entries.{slotAt, queued}
+use Rattle.queue.specs.Contracts.Ranks.{HeapFrom}
+use Rattle.queue.specs.Contracts.Order.{Slotted, Sifted}
+use Rattle.queue.specs.Contracts.Queued.{Queue}
+use Rattle.queue.specs.Contracts.Changes.{Popped}
+use Rattle.queue.proofs.RootLaws.{slotted-fewer, root-least, exchanged-sifted, exchanged-heap, exchanged-sums}
+use Rattle.queue.proofs.SwapLaws.{swapped, sifted-slotted}
 use Rattle.queue.proofs.OrderLaws.{every-members, place-queued, queued-slot, sifted-sums}
 use Rattle.queue.proofs.EntryLaws.{room-but}
 

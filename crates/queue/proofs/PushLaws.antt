@@ -13,21 +13,21 @@ use lib.Ieee.{Float}
 use lib.ListN.{length}
 use Rattle.geometry.specs.declared.Point.{Point}
 use Rattle.placement.specs.Pairs.{pairPlace, pairCost}
-use Rattle.surface.specs.declared.Pair.{Pair}
-use Rattle.surface.specs.Lists.{sum, below, SameBag}
-use Rattle.surface.specs.Walk.{pairOf}
-use Rattle.surface.proofs.BagLaws.{bag-some}
-use Rattle.mesh.specs.Memory.{But}
-use Rattle.mesh.proofs.BelowLaws.{map-same}
-use Rattle.mesh.proofs.Frames.{but-refl, but-widen}
-use Rattle.vertices.specs.Memory.{vertexAt}
-use Rattle.pairs.specs.Memory.{pairAt}
-use Rattle.heap.specs.Memory.{slotAt, queued, costIn, rankIn, rankAt, HeapFrom}
-use Rattle.heap.specs.Order.{Slotted, Sifted}
-use Rattle.queue.specs.Memory.{stamp, keepStamp, removeStamp, placeIn, isCurrent, isQueued, openIn}
-use Rattle.queue.specs.Queued.{Queue, Named, Kept}
-use Rattle.queue.specs.Changes.{Pushed}
-use Rattle.queue.specs.Pushing.{RoomMade, EntryPut}
+use Rattle.walk.specs.declared.Pair.{Pair}
+use Rattle.lists.specs.Lists.{sum, below, SameBag}
+use Rattle.walk.specs.Pairs.{pairOf}
+use Rattle.lists.proofs.BagLaws.{bag-some}
+use Rattle.lists.specs.Frames.{But}
+use Rattle.lists.proofs.BelowLaws.{map-same}
+use Rattle.lists.proofs.FrameLaws.{but-refl, but-widen}
+use Rattle.memory.specs.Points.{vertexAt}
+use Rattle.memory.specs.Entries.{pairAt, slotAt, queued, costIn, stamp, keepStamp, removeStamp, entryPlace}
+use Rattle.queue.specs.Contracts.Ranks.{rankIn, rankAt, HeapFrom}
+use Rattle.queue.specs.Contracts.Order.{Slotted, Sifted}
+use Rattle.queue.specs.State.{isCurrent, isQueued, openIn}
+use Rattle.queue.specs.Contracts.Queued.{Queue, Named, Kept}
+use Rattle.queue.specs.Contracts.Changes.{Pushed}
+use Rattle.queue.specs.Contracts.Pushing.{RoomMade, EntryPut}
 use Rattle.queue.proofs.OrderLaws.{sum-members, queued-next, place-queued, queued-slot, sifted-sums}
 use Rattle.queue.proofs.EntryLaws.{weighed, open-sum, room-but, pair-kept}
 use Rattle.queue.proofs.PushLawsSlots.{one-of-more, slot-below, slots-below, other-slot}
@@ -99,7 +99,7 @@ record SlotKept (v f : ℕ) (w : List ℕ) (p q : List Float) (bound : Float) (s
   cost : isCurrent v f w s ≡ true →
       costIn v q s ≡ pairCost bound (vertexAt v f w p q (pairAt v f w s .keep)) (vertexAt v f w p q (pairAt v f w s .remove))
   place : isCurrent v f w s ≡ true →
-      placeIn v p s ≡ pairPlace bound (vertexAt v f w p q (pairAt v f w s .keep)) (vertexAt v f w p q (pairAt v f w s .remove))
+      entryPlace v p s ≡ pairPlace bound (vertexAt v f w p q (pairAt v f w s .keep)) (vertexAt v f w p q (pairAt v f w s .remove))
 
 kept-slot : {v f : ℕ} {w : List ℕ} {p q : List Float} {n : ℕ} {bound : Float} → Kept v f w p q n bound → (s : ℕ) → isQueued v f w n s ≡ true →
     SlotKept v f w p q bound s
@@ -231,7 +231,7 @@ module _ {v f n keep remove count s : ℕ} {cost : Float} {place : Point} {w w�
     slot-kept : (t x y : ℕ) → pairAt v f w₃ t ≡ pairOf x y → (x < v) × (y < v) →
         (keepStamp v f w₃ t ≤ stamp v f w x) × (removeStamp v f w₃ t ≤ stamp v f w y) →
         (isCurrent v f w₃ t ≡ true → costIn v q' t ≡ pairCost bound (vertexAt v f w p q x) (vertexAt v f w p q y)) →
-        (isCurrent v f w₃ t ≡ true → placeIn v p' t ≡ pairPlace bound (vertexAt v f w p q x) (vertexAt v f w p q y)) →
+        (isCurrent v f w₃ t ≡ true → entryPlace v p' t ≡ pairPlace bound (vertexAt v f w p q x) (vertexAt v f w p q y)) →
         SlotKept v f w₃ p' q' bound t
     slot-kept t x y pair both-v older costs places =
         let x-is : pairAt v f w₃ t .keep ≡ x = ap (λ (z : Pair). z .keep) pair in

@@ -13,19 +13,20 @@ use lib.ListN.{length, getD, set, length-set}
 use lib.Seq.{getD-set-same, getD-set-other, drop-set-lt}
 use borrow.Author.Tests.{eq-eqb}
 use Rattle.geometry.specs.declared.Point.{Point}
-use Rattle.surface.specs.declared.Pair.{Pair}
-use Rattle.surface.specs.Walk.{pairOf}
-use Rattle.surface.proofs.SamePairs.{pair-path}
-use Rattle.mesh.specs.Memory.{Room, But, kind}
-use Rattle.vertices.specs.Memory.{pointAt, quadricAt, withPoint, pointParts}
-use Rattle.vertices.proofs.StoredLaws.{stored-other}
-use Rattle.vertices.proofs.MemoryLaws.{point-stored, point-other, point-length, point-rest, quadric-same}
-use Rattle.pairs.specs.Memory.{pairAt}
-use Rattle.pairs.proofs.OpenLaws.{pushed-but, pushed-here}
-use Rattle.heap.specs.Memory.{slotAt, costIn, rankIn}
-use Rattle.queue.specs.Memory.{stamp, keepStamp, removeStamp, placeIn, isCurrent}
-use Rattle.queue.specs.Changes.{FloatsBut}
-use Rattle.queue.specs.Pushing.{withPair, EntryPut}
+use Rattle.walk.specs.declared.Pair.{Pair}
+use Rattle.walk.specs.Pairs.{pairOf}
+use Rattle.walk.proofs.SamePairs.{pair-path}
+use Rattle.memory.specs.Memory.{Room, kind}
+use Rattle.lists.specs.Frames.{But, FloatsBut}
+use Rattle.meaning.specs.Input.{pointAt}
+use Rattle.memory.specs.Points.{quadricAt, withPoint, pointParts}
+use Rattle.lists.proofs.StoredLaws.{stored-other}
+use Rattle.memory.proofs.PointLaws.{point-stored, point-other, point-length, point-rest, quadric-same}
+use Rattle.memory.specs.Entries.{pairAt, slotAt, costIn, stamp, keepStamp, removeStamp, entryPlace}
+use Rattle.openpairs.proofs.OpenLaws.{pushed-but, pushed-here}
+use Rattle.queue.specs.Contracts.Ranks.{rankIn}
+use Rattle.queue.specs.State.{isCurrent}
+use Rattle.queue.specs.Contracts.Pushing.{withPair, EntryPut}
 
 -- ---- two cells written
 
@@ -186,13 +187,13 @@ module _ {v f s keep remove : ℕ} {cost : Float} {place : Point} {w w' : List �
     rest = rw (put .costs) (drop-set-lt (10 * v + 3 * f) q (10 * v + s) cost (omega arith));
   }
 
-  pub here-place : 3 * v + 9 * f ≤ length p → placeIn v p' s ≡ place
+  pub here-place : 3 * v + 9 * f ≤ length p → entryPlace v p' s ≡ place
   here-place long = rw (put .places) (point-stored p (v + s) place (omega arith))
 
   pub here-cost : 10 * v + 3 * f ≤ length q → costIn v q' s ≡ cost
   here-cost long = rw (put .costs) (getD-set-same q (10 * v + s) cost nan (omega arith))
 
-  pub other-place : (t : ℕ) → t ≢ s → placeIn v p' t ≡ placeIn v p t
+  pub other-place : (t : ℕ) → t ≢ s → entryPlace v p' t ≡ entryPlace v p t
   other-place t other = rw (put .places) (point-other p (v + s) place (v + t) (λ e. other (omega arith)))
 
   pub other-cost : (t : ℕ) → t ≢ s → costIn v q' t ≡ costIn v q t

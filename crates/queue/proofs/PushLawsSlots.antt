@@ -10,13 +10,13 @@ use mathlib.Core.Bool.{true, cond}
 use lib.Dec.{eqb, ltb}
 use lib.Ieee.{Float}
 use borrow.Author.Tests.{lt-ltb, eq-eqb}
-use Rattle.surface.specs.Lists.{sum, every, below}
-use Rattle.surface.proofs.ListLaws.{count-below-le}
-use Rattle.surface.proofs.SumLaws.{sum-below}
+use Rattle.lists.specs.Lists.{sum, every, below}
+use Rattle.lists.proofs.ListLaws.{count-below-le}
+use Rattle.lists.proofs.SumLaws.{sum-below}
 use Rattle.mesh.proofs.AroundLaws.{sum-slots}
-use Rattle.heap.specs.Memory.{slotAt, queued}
-use Rattle.queue.specs.Memory.{isQueued}
-use Rattle.queue.specs.Queued.{Queue}
+use Rattle.memory.specs.Entries.{slotAt, queued}
+use Rattle.queue.specs.State.{isQueued}
+use Rattle.queue.specs.Contracts.Queued.{Queue}
 use Rattle.queue.proofs.OrderLaws.{every-members, some-counted, queued-next, place-queued, queued-place, queued-slot}
 
 -- a sum over fewer of the numbers

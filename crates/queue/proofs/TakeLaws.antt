@@ -9,17 +9,18 @@ use lib.Dec.{eqb}
 use lib.ListN.{length}
 use lib.Ieee.{Float}
 use borrow.Author.Tests.{eq-eqb, eqb-true}
-use Rattle.surface.specs.declared.Pair.{Pair}
-use Rattle.surface.specs.Lists.{sum, count, below}
-use Rattle.surface.proofs.SumLaws.{by-test, sum-same}
-use Rattle.mesh.specs.Memory.{But}
-use Rattle.mesh.proofs.Frames.{but-refl, but-then}
-use Rattle.pairs.specs.Memory.{pairAt}
-use Rattle.heap.specs.Memory.{slotAt, queued, rankIn}
-use Rattle.queue.specs.Memory.{isCurrent, isQueued, openIn}
-use Rattle.queue.specs.Queued.{Queue, Named, Entered}
-use Rattle.queue.specs.Changes.{Fewer, Popped, TakenOff, NoneLeft}
-use Rattle.heap.proofs.SwapLaws.{rank-kept}
+use Rattle.walk.specs.declared.Pair.{Pair}
+use Rattle.lists.specs.Lists.{sum, count, below}
+use Rattle.lists.proofs.TestLaws.{by-test}
+use Rattle.lists.proofs.SumLaws.{sum-same}
+use Rattle.lists.specs.Frames.{But}
+use Rattle.lists.proofs.FrameLaws.{but-refl, but-then}
+use Rattle.memory.specs.Entries.{pairAt, slotAt, queued}
+use Rattle.queue.specs.Contracts.Ranks.{rankIn}
+use Rattle.queue.specs.State.{isCurrent, isQueued, openIn}
+use Rattle.queue.specs.Contracts.Queued.{Queue, Named, Entered}
+use Rattle.queue.specs.Contracts.Changes.{Fewer, Popped, TakenOff, NoneLeft}
+use Rattle.queue.proofs.SwapLaws.{rank-kept}
 use Rattle.queue.proofs.OrderLaws.{member-of, counted-some, place-queued, queued-place}
 use Rattle.queue.proofs.EntryLaws.{weighed, ifCurrent, open-sum, open-length, open-sum-kept, queue-entered, current-kept, entered-kept}
 

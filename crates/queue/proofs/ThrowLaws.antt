@@ -8,17 +8,18 @@ use mathlib.Core.List.{List}
 use mathlib.Core.Bool.{Bool, true, false, cond}
 use lib.Dec.{eqb}
 use lib.Ieee.{Float}
-use Rattle.surface.specs.Lists.{sum, below}
-use Rattle.surface.proofs.SumLaws.{sum-same, sum-mono, sum-those, sum-length}
-use Rattle.mesh.specs.Memory.{Room, But}
-use Rattle.mesh.proofs.Frames.{but-then}
-use Rattle.pairs.specs.Memory.{pairAt}
-use Rattle.heap.specs.Memory.{slotAt, queued, HeapFrom}
-use Rattle.heap.specs.Order.{Slotted, Sifted}
-use Rattle.queue.specs.Memory.{isCurrent}
-use Rattle.queue.specs.Queued.{Queue, Named, Entered}
-use Rattle.queue.specs.Changes.{Fewer, CurrentFirst, ThrownOut}
-use Rattle.heap.proofs.SwapLaws.{swapped, swapped-slots, swapped-sifted, sifted-none, sifted-then}
+use Rattle.lists.specs.Lists.{sum, below}
+use Rattle.lists.proofs.SumLaws.{sum-same, sum-mono, sum-those, sum-length}
+use Rattle.memory.specs.Memory.{Room}
+use Rattle.lists.specs.Frames.{But}
+use Rattle.lists.proofs.FrameLaws.{but-then}
+use Rattle.memory.specs.Entries.{pairAt, slotAt, queued}
+use Rattle.queue.specs.Contracts.Ranks.{HeapFrom}
+use Rattle.queue.specs.Contracts.Order.{Slotted, Sifted}
+use Rattle.queue.specs.State.{isCurrent}
+use Rattle.queue.specs.Contracts.Queued.{Queue, Named, Entered}
+use Rattle.queue.specs.Contracts.Changes.{Fewer, CurrentFirst, ThrownOut}
+use Rattle.queue.proofs.SwapLaws.{swapped, swapped-slots, swapped-sifted, sifted-none, sifted-then}
 use Rattle.queue.proofs.OrderLaws.{member-of, queued-next, queued-length, queued-agree}
 use Rattle.queue.proofs.EntryLaws.{weighed, ifCurrent, open-sum, open-length, open-sum-kept, queue-entered, room-but, entered-kept, current-kept}
 use Rattle.queue.proofs.PopLaws.{sifted-order, sifted-once, first-slotted}

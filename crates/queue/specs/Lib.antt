@@ -1,5 +1,3 @@
--- The queue of the heap walk in lent memory: entries with stamps.
-pub mod Memory
-pub mod Queued
-pub mod Changes
-pub mod Pushing
+-- The queue of the heap walk in lent memory: entries with stamps, the least on top.
+pub mod State
+pub mod Contracts

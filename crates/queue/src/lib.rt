@@ -7,18 +7,20 @@ ghost use Prim.Native.Nat.{ℕ, _+_, _*_, _^_, _≤_, _<_};
 ghost use lib.Ieee.{Float};
 ghost use lib.ListN.{length, set};
 ghost use Rattle.placement.specs.Pairs.{pairPlace, pairCost};
-ghost use Rattle.mesh.specs.Memory.{Room};
-ghost use Rattle.vertices.specs.Memory.{vertexAt, withPoint};
-ghost use Rattle.pairs.specs.Memory.{pairAt};
-ghost use Rattle.heap.specs.Memory.{slotAt};
-ghost use Rattle.queue.specs.Memory.{stamp, isCurrent, openIn};
-ghost use Rattle.queue.specs.Queued.{Queue, Named, Entered, Kept};
-ghost use Rattle.queue.specs.Pushing.{RoomMade, EntryPut};
-ghost use Rattle.queue.specs.Changes.{Emptied, Popped, TookCurrent, CurrentFirst, ThrownOut, Pushed};
+ghost use Rattle.memory.specs.Memory.{Room};
+ghost use Rattle.memory.specs.Points.{vertexAt};
+ghost use Rattle.memory.specs.Entries.{pairAt, slotAt, stamp};
+ghost use Rattle.queue.specs.State.{isCurrent, openIn};
+ghost use Rattle.queue.specs.Contracts.Queued.{Queue, Named, Entered, Kept};
+ghost use Rattle.queue.specs.Contracts.Pushing.{RoomMade, EntryPut};
+ghost use Rattle.queue.specs.Contracts.Changes.{Emptied, Popped, TookCurrent, CurrentFirst, ThrownOut, Pushed};
+
+mod order;
+
 use geometry::Point;
-use heap::slot_at;
-use pairs::keep_at;
-use pairs::remove_at;
+use openpairs::keep_at;
+use openpairs::remove_at;
+use order::slot_at;
 
 // What is taken off: the slot of a current entry and the number of entries left, or nothing where none was current.
 pub enum Taken {
@@ -71,8 +73,8 @@ pub fn pop(w: &mut [u32], q: &[f64], v: usize, f: usize, n: usize) -> usize
     ensures { λ r. ⌜ Popped v f (now (w .entry)) (now (q .entry)) n (now (w .exit)) r ⌝ }
 {
     let slot = slot_at(w, v, f, 0);
-    heap::swap(w, v, f, 0, n - 1);
-    heap::sift_down(w, q, v, f, 0, n - 1);
+    order::swap(w, v, f, 0, n - 1);
+    order::sift_down(w, q, v, f, 0, n - 1);
     slot
 }
 
@@ -101,7 +103,7 @@ fn gather_current(w: &mut [u32], v: usize, f: usize, n: usize) -> usize
     for i in 0..n {
         let slot = slot_at(w, v, f, i);
         if is_current(w, v, f, slot) {
-            heap::swap(w, v, f, i, kept);
+            order::swap(w, v, f, i, kept);
             kept += 1;
         }
     }
@@ -114,7 +116,7 @@ pub fn throw_out(w: &mut [u32], q: &[f64], v: usize, f: usize, n: usize) -> usiz
     ensures { λ r. ⌜ ThrownOut v f (now (w .entry)) (now (q .entry)) n (now (w .exit)) r ⌝ }
 {
     let kept = gather_current(w, v, f, n);
-    heap::settle(w, q, v, f, kept);
+    order::settle(w, q, v, f, kept);
     kept
 }
 
@@ -147,10 +149,10 @@ fn put_entry(
 {
     let keeps = stamp_at(w, v, f, keep as usize);
     let removes = stamp_at(w, v, f, remove as usize);
-    pairs::push_pair(w, v, f, s, keep, remove);
+    openpairs::push_pair(w, v, f, s, keep, remove);
     w[18 * f + 5 * v + s] = keeps;
     w[21 * f + 5 * v + s] = removes;
-    vertices::set_point(p, v + s, place);
+    memory::set_point(p, v + s, place);
     q[10 * v + s] = cost;
 }
 
@@ -173,6 +175,6 @@ pub fn push(
     let count = make_room(w, q, v, f, n);
     let slot = slot_at(w, v, f, count);
     put_entry(w, p, q, v, f, slot, keep, remove, cost, place);
-    heap::sift_up(w, q, v, f, count);
+    order::sift_up(w, q, v, f, count);
     count + 1
 }

@@ -2,7 +2,7 @@
 -- Assumes nothing.
 use Prim.Native.Nat.{ℕ, _%_, _≤_, _<_}
 use mathlib.Core.Path.{_≡_, refl, sym, _∙_}
-use mathlib.Core.Bool.{true, false, not, true≢false}
+use mathlib.Core.Bool.{true, not, true≢false}
 use lib.Arith.{le→nltb}
 use lib.Dec.{T}
 use lib.Ieee.{Float, nan, inf, fin, binary32, isNan, nanBits, ofBits}

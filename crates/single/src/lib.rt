@@ -12,8 +12,7 @@ use placement::pair::Vertex;
 ghost use mathlib.Core.Path.{_≡_};
 ghost use Prim.Native.Nat.{_+_, _≤_, _<_};
 ghost use lib.ListN.{length};
-ghost use Rattle.single.specs.Patterns.{at32, at64, pointFrom, quadricFrom, rowFrom, vertexFrom, bare, rowBits};
-ghost use Rattle.single.specs.Patterns.{planePattern, errorPattern, Inverted, lengthPattern, placePattern, costPattern};
+ghost use Rattle.single.specs.Patterns.{at32, at64, pointFrom, quadricFrom, rowFrom, vertexFrom, bare, rowBits, planePattern, errorPattern, Inverted, lengthPattern, placePattern, costPattern};
 
 // The largest size of a coordinate.
 const BOUND: f32 = 1048576.0;

@@ -2,21 +2,21 @@
 -- Assumes nothing.
 use Prim.Native.Nat.{ℕ, _*_}
 use native.Mathlib.Omega.{arith}
-use mathlib.Core.Path.{_≡_, refl, sym}
+use mathlib.Core.Path.{_≡_, refl}
 use mathlib.Core.List.{List, [], _∷_}
 use mathlib.Core.Bool.{Bool, true, false, cond}
 use lib.Dec.{ltb}
 use lib.ListN.{length}
 use Rattle.placement.specs.declared.pair.Vertex.{Vertex}
-use Rattle.surface.specs.Rules.{Rules}
-use Rattle.surface.specs.Folding.{Mesh}
-use Rattle.surface.specs.Renumber.{used, renumbered}
-use Rattle.renumbering.proofs.WritingLaws.{length-numbers, length-renumbered}
-use Rattle.checks.specs.declared.Verdict.{Verdict}
-use Rattle.checks.specs.declared.Verdict.the-variants.{Refused, Copied, Admitted}
-use Rattle.checks.specs.Verdicts.{Input, verdictOf}
+use Rattle.walk.specs.Points.{Rules, Mesh}
+use Rattle.walk.specs.Output.{used, renumbered}
+use Rattle.output.proofs.WritingLaws.{length-numbers, length-renumbered}
+use Rattle.meaning.specs.declared.Verdict.{Verdict}
+use Rattle.meaning.specs.declared.Verdict.the-variants.{Refused, Copied, Admitted}
+use Rattle.meaning.specs.Input.{Input}
+use Rattle.meaning.specs.Answers.{verdictOf}
 use Rattle.checks.proofs.VerdictLaws as verdicts
-use Rattle.thinning.specs.Outcomes.{Outcome, rulesIn, lastMesh, partsIn, stuck, bordersHeld, refusal, stuckAnswer, thinnedOutcome, outcomeBy, outcome}
+use Rattle.meaning.specs.Outcome.{Outcome, rulesIn, lastMesh, partsIn, stuck, bordersHeld, refusal, stuckAnswer, thinnedOutcome, outcomeBy, outcome}
 
 pub record Counted (o : Outcome) : Type 0 where
   pub points : length (o .points) ≡ 3 * o .answer .points

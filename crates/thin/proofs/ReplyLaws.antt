@@ -3,15 +3,15 @@
 use Prim.Native.Nat.{ℕ, zero, suc, _+_, _*_, _/_, _≤_}
 use native.Mathlib.Omega.{arith}
 use mathlib.Core.Path.{_≡_, refl, sym, ap, subst, _∙_}
-use mathlib.Core.List.{List, [], _∷_, _++_, map}
+use mathlib.Core.List.{List}
 use mathlib.Core.Bool.{Bool, true}
-use lib.ListN.{length, take, drop, length-append, length-drop, length-map}
+use lib.ListN.{length, take, drop, length-append, length-map}
 use lib.Seq.{take-at}
 use lib.Ieee.{Float, binary32, ofBits}
 use borrow.Author.Tests.{le-leb}
-use Rattle.thinning.specs.declared.Answer.{Answer}
-use Rattle.thinning.specs.Entry.{inputOf}
-use Rattle.thinning.specs.Outcomes.{Outcome}
+use Rattle.meaning.specs.declared.Answer.{Answer}
+use Rattle.meaning.specs.Call.{inputOf}
+use Rattle.meaning.specs.Outcome.{Outcome}
 use Rattle.listing.specs.declared.Listed.{Listed}
 use Rattle.listing.specs.declared.Listed.the-variants.{Bytes}
 use Rattle.listing.specs.Texts.{refusalText, meshText, refusalFits, meshFits}

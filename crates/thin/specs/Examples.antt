@@ -3,7 +3,7 @@ use Prim.Native.Nat.{ℕ}
 use mathlib.Core.Path.{_≡_, refl}
 use mathlib.Core.List.{List, [], _∷_, map, flatMap}
 use lib.Ieee as ieee
-use lib.Ieee.{binary32, span, climb, size, odd, units, round, neg, add, sub, mul, div, lt, eq, le, ofInt, toUnsigned, isNan, ofFields, ofBits, toBits}
+use lib.Ieee.{span, climb, size, odd, units, round, neg, add, sub, mul, div, lt, eq, le, ofInt, toUnsigned, isNan, ofFields, ofBits, toBits}
 use Rattle.bits.specs.Cut.{cut, target}
 use Rattle.bits.specs.Narrow.{narrowed}
 use Rattle.bits.specs.Order.{orderKey, floatKey}
@@ -15,21 +15,23 @@ use Rattle.placement.specs.Errors.{errorAt}
 use Rattle.placement.specs.Inverses.{inverse}
 use Rattle.placement.specs.Pairs.{pairQuadric, pairLength, pairPlace, pairCost, eligible}
 use Rattle.placement.specs.Places.{solved, stands, tested, cheaper, fallback, placeOf}
-use Rattle.surface.specs.Lists as lists
-use Rattle.surface.specs.Lists.{those, every, some, without, below}
-use Rattle.surface.specs.Faces.{borderPoint, borderCount}
-use Rattle.surface.specs.Folding.{foldedFaces, fairFace, allowed, foldedMesh}
-use Rattle.surface.specs.Walk.{pairsBelow, foldOf, budget, order, least, started, opened, tried, chosen, answer, after, walk, foldList}
-use Rattle.surface.specs.Renumber.{used, placeIn, renumbered, numbersOf}
-use Rattle.vertices.specs.Rules.{fairPoints, mergedVertex, rulesOf}
-use Rattle.vertices.specs.Start.{gathered, startMesh}
-use Rattle.checks.specs.Verdicts.{Input, firstOf, faceVerdict, contentsVerdict, verdictOf}
-use Rattle.thinning.specs.Outcomes.{startOf, targetOf, lastMesh, foldsWalked, partsIn, refusal, Outcome, outcomeBy, outcome}
+use Rattle.lists.specs.Lists as lists
+use Rattle.lists.specs.Lists.{those, every, some, without, below, firstOf}
+use Rattle.walk.specs.Faces.{borderPoint, borderCount}
+use Rattle.walk.specs.Fold.{foldedFaces, foldedMesh}
+use Rattle.walk.specs.FoldTest.{fairFace, allowed}
+use Rattle.walk.specs.Pairs.{pairsBelow, order, least, opened}
+use Rattle.walk.specs.Walk.{foldOf, budget, started, tried, chosen, answer, after, walk, foldList}
+use Rattle.walk.specs.Output.{used, placeIn, renumbered, numbersOf}
+use Rattle.meaning.specs.Arithmetic.{fairPoints, mergedVertex, rulesOf}
+use Rattle.meaning.specs.Start.{gathered, startMesh}
+use Rattle.meaning.specs.Answers.{faceVerdict, contentsVerdict, verdictOf}
+use Rattle.meaning.specs.Outcome.{startOf, targetOf, lastMesh, foldsWalked, partsIn, outcomeBy, outcome}
 use Rattle.scanfile.specs.Words.{fourBytes}
 use Rattle.scanfile.specs.Records.{recordFault, optionsFault}
 use Rattle.scanfile.specs.Scans.{scanOf}
 use Rattle.scanfile.specs.Contents.{numbersFrom}
-use Rattle.scanfile.specs.Files.{Contents, asFours, fileOf}
+use Rattle.scanfile.specs.Files.{asFours, fileOf}
 use Rattle.listing.specs.Digits.{digits, places, decimal, eightDigits}
 use Rattle.listing.specs.Texts.{linesTo, refusalText, headText, meshText}
 use Rattle.listing.specs.Examples.{squareListing, refusalListing}

@@ -1,13 +1,13 @@
 -- The text that the program writes, for any bytes that it reads.
-use Prim.Native.Nat.{ℕ, zero, suc, _+_, _*_, _≤_}
+use Prim.Native.Nat.{ℕ, zero, suc, _*_, _≤_}
 use mathlib.Core.Path.{_≡_}
 use mathlib.Core.List.{List}
 use lib.ListN.{length}
 use lib.Ieee.{Float}
-use Rattle.checks.specs.Verdicts.{Input}
-use Rattle.thinning.specs.declared.Answer.{Answer}
-use Rattle.thinning.specs.Entry.{largest}
-use Rattle.thinning.specs.Outcomes.{Outcome, outcome}
+use Rattle.meaning.specs.Input.{Input}
+use Rattle.meaning.specs.declared.Answer.{Answer}
+use Rattle.meaning.specs.Call.{largest}
+use Rattle.meaning.specs.Outcome.{Outcome, outcome}
 use Rattle.scanfile.specs.declared.Head.{Head}
 use Rattle.scanfile.specs.declared.Scan.{Scan}
 use Rattle.scanfile.specs.declared.Scan.the-variants.{Good, Bad}

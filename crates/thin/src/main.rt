@@ -5,16 +5,16 @@ ghost use Prim.Native.Nat.{_+_, _*_, _≤_};
 ghost use lib.ListN.{length, take};
 ghost use Rattle.scanfile.specs.declared.Scan.the-variants.{Good};
 ghost use Rattle.scanfile.specs.Scans.{scanOf};
-ghost use Rattle.thinning.specs.Outcomes.{outcome};
+ghost use Rattle.meaning.specs.Outcome.{outcome};
 ghost use Rattle.listing.specs.Texts.{refusalText, meshText};
 ghost use Rattle.thin.specs.Replies.{sizeIn, answerText, callOf, outcomeText, replyBy, replyOf, Texted, Shown, Held};
 use libc::STDERR_FILENO;
 use libc::STDIN_FILENO;
 use libc::STDOUT_FILENO;
 use listing::Listed;
+use meaning::Answer;
 use scanfile::Head;
 use scanfile::Scan;
-use thinning::Answer;
 
 // ---- memory, of which only the lengths matter
 

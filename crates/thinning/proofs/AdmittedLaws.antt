@@ -7,21 +7,23 @@ use mathlib.Core.List.{List}
 use mathlib.Core.Bool.{Bool, true}
 use lib.Ieee.{Float}
 use lib.ListN.{length}
-use Rattle.surface.specs.declared.Pair.{Pair}
-use Rattle.surface.specs.Faces.{facesOf}
-use Rattle.mesh.specs.Memory.{liveFaces}
-use Rattle.mesh.specs.Chains.{Tidy}
-use Rattle.mesh.proofs.Frames.{but-widen}
-use Rattle.walks.specs.declared.Walked.{Walked}
-use Rattle.walks.specs.Steps.{Within}
-use Rattle.walks.specs.Whole.{foldsIn, WalkDone}
-use Rattle.walks.proofs.Theorems.{plain-walk-fewer}
-use Rattle.checks.specs.declared.Verdict.the-variants.{Admitted}
-use Rattle.checks.specs.Verdicts.{Input, pointsIn, facesIn, verdictOf}
-use Rattle.thinning.specs.declared.Answer.{Answer}
-use Rattle.thinning.specs.Outcomes.{targetOf, Outcome, outcome, foldsOf}
-use Rattle.thinning.specs.Entry.{Leaves, listed}
-use Rattle.thinning.specs.Stages.{Working, LaidOut, outcomeIn, Finished, Zeroed}
+use Rattle.walk.specs.declared.Pair.{Pair}
+use Rattle.walk.specs.Faces.{facesOf}
+use Rattle.memory.specs.Memory.{liveFaces}
+use Rattle.mesh.specs.Contracts.Chains.{Tidy}
+use Rattle.lists.proofs.FrameLaws.{but-widen}
+use Rattle.plainwalk.specs.declared.Walked.{Walked}
+use Rattle.plainwalk.specs.Steps.{Within}
+use Rattle.memory.specs.Entries.{foldsIn}
+use Rattle.plainwalk.specs.Whole.{WalkDone}
+use Rattle.plainwalk.proofs.Theorems.{plain-walk-fewer}
+use Rattle.meaning.specs.declared.Verdict.the-variants.{Admitted}
+use Rattle.meaning.specs.Input.{Input, pointsIn, facesIn}
+use Rattle.meaning.specs.Answers.{verdictOf}
+use Rattle.meaning.specs.declared.Answer.{Answer}
+use Rattle.meaning.specs.Outcome.{targetOf, Outcome, outcome, foldsOf}
+use Rattle.meaning.specs.Call.{Leaves, listed}
+use Rattle.thinning.specs.Contracts.{Working, LaidOut, outcomeIn, Finished, Zeroed}
 use Rattle.thinning.proofs.FrameLaws.{within-then, working-within, zeroed-within}
 use Rattle.thinning.proofs.LaidLaws.{borders-few}
 use Rattle.thinning.proofs.WalkedLaws.{folds-are, outcome-is, outcome-worked}

@@ -7,16 +7,16 @@ use mathlib.Core.Path.{_≡_, refl, sym, ap, _∙_}
 use mathlib.Core.List.{List, [], _∷_, _++_, map, map-append, append-assoc}
 use lib.ListN.{length, getD, set, take, length-take}
 use lib.Seq.{getD-take}
-use Rattle.surface.specs.declared.Pair.{Pair}
-use Rattle.surface.specs.Lists.{below}
-use Rattle.surface.specs.Walk.{pairOf}
-use Rattle.surface.proofs.SamePairs.{pair-path}
-use Rattle.mesh.proofs.BelowLaws.{map-same}
-use Rattle.vertices.proofs.BelowLaws.{length-each, getD-each}
-use Rattle.renumbering.proofs.OverLaws.{copied, copy-more, copy-all}
-use Rattle.walks.specs.Whole.{foldsIn}
-use Rattle.thinning.specs.Outcomes.{pairNumbers}
-use Rattle.thinning.specs.Entry.{listed}
+use Rattle.walk.specs.declared.Pair.{Pair}
+use Rattle.lists.specs.Lists.{below}
+use Rattle.walk.specs.Pairs.{pairOf}
+use Rattle.walk.proofs.SamePairs.{pair-path}
+use Rattle.lists.proofs.BelowLaws.{map-same}
+use Rattle.lists.proofs.EachLaws.{length-each, getD-each}
+use Rattle.lists.proofs.OverlayLaws.{copied, copy-more, copy-all}
+use Rattle.memory.specs.Entries.{foldsIn}
+use Rattle.meaning.specs.Outcome.{pairNumbers}
+use Rattle.meaning.specs.Call.{listed}
 
 -- the numbers of two lists of pairs, one after the other
 numbers-append : (xs ys : List Pair) → pairNumbers (xs ++ ys) ≡ pairNumbers xs ++ pairNumbers ys

@@ -8,11 +8,11 @@ use lib.Ieee.{Float}
 use lib.ListN.{length, drop, replicate, length-append, length-replicate, length-drop}
 use lib.Seq.{ext-getD, getD-drop}
 use Rattle.geometry.specs.Constants.{nought}
-use Rattle.mesh.specs.Memory.{But}
-use Rattle.mesh.proofs.Frames.{but-then}
-use Rattle.walks.specs.Steps.{Within}
-use Rattle.walks.proofs.MemoryLaws.{rest-more}
-use Rattle.thinning.specs.Stages.{Working, Zeroed}
+use Rattle.lists.specs.Frames.{But}
+use Rattle.lists.proofs.FrameLaws.{but-then}
+use Rattle.plainwalk.specs.Steps.{Within}
+use Rattle.plainwalk.proofs.MemoryLaws.{rest-more}
+use Rattle.thinning.specs.Contracts.{Working, Zeroed}
 
 -- cells past a change
 rest-but : {hi : ℕ} {w w' : List ℕ} (n : ℕ) → But 0 hi w w' → hi ≤ n → drop n w' ≡ drop n w

@@ -8,21 +8,21 @@ use mathlib.Core.Bool.{Bool, true, false, cond}
 use lib.Ieee.{Float}
 use lib.ListN.{length}
 use Rattle.geometry.specs.Quadrics.{zeroQuadric}
-use Rattle.surface.specs.declared.Face.{Face}
-use Rattle.surface.specs.Lists.{every, below}
-use Rattle.surface.specs.Faces.{proper, facesOf, borderPoint, borderCount}
-use Rattle.mesh.specs.Memory.{Room, faceAt, liveFaces}
-use Rattle.mesh.specs.Laid.{Laid, Bordered}
-use Rattle.mesh.proofs.Frames.{but-then, but-widen}
-use Rattle.mesh.proofs.Sums.{count-most}
-use Rattle.vertices.specs.Memory.{withPoints}
-use Rattle.vertices.specs.Start.{gathered}
-use Rattle.vertices.specs.Laying.{QuadricsAre}
-use Rattle.vertices.proofs.BelowLaws.{length-each}
-use Rattle.vertices.proofs.LayLaws.{points-length, points-rest}
-use Rattle.vertices.proofs.StartLaws.{bordered-laid, slots-proper, mesh-laid}
-use Rattle.walks.proofs.MemoryLaws.{rest-more}
-use Rattle.thinning.specs.Stages.{Working, LaidOut}
+use Rattle.walk.specs.declared.Face.{Face}
+use Rattle.lists.specs.Lists.{every, below}
+use Rattle.walk.specs.Faces.{proper, facesOf, borderPoint, borderCount, faceAt}
+use Rattle.memory.specs.Memory.{Room, liveFaces}
+use Rattle.mesh.specs.Contracts.Laid.{Laid, Bordered}
+use Rattle.lists.proofs.FrameLaws.{but-then, but-widen}
+use Rattle.lists.proofs.BelowSums.{count-most}
+use Rattle.memory.specs.Points.{withPoints}
+use Rattle.meaning.specs.Start.{gathered}
+use Rattle.mesh.specs.Contracts.Quadrics.{QuadricsAre}
+use Rattle.lists.proofs.EachLaws.{length-each}
+use Rattle.mesh.proofs.QuadricLaws.{points-length, points-rest}
+use Rattle.mesh.proofs.StartLaws.{bordered-laid, slots-proper, mesh-laid}
+use Rattle.plainwalk.proofs.MemoryLaws.{rest-more}
+use Rattle.thinning.specs.Contracts.{Working, LaidOut}
 
 module _ (points : List Float) {v f n : ℕ} {faces : List ℕ} {preserve : Bool} {w w₁ w₂ : List ℕ} {p q : List Float}
     (room : Working v f w p q) (points-long : length points ≡ 3 * v) (all-proper : every (proper v) (facesOf f faces) ≡ true)

@@ -7,4 +7,3 @@ pub mod WalkedLaws
 pub mod FoldListLaws
 pub mod AdmittedLaws
 pub mod VerdictLaws
-pub mod Determined

@@ -10,22 +10,23 @@ use lib.Ieee.{Float}
 use lib.ListN.{length, length-map}
 use borrow.Author.Tests.{ltb-true, lt-ltb}
 use Rattle.placement.specs.declared.pair.Vertex.{Vertex}
-use Rattle.surface.specs.Lists.{every, those, below}
-use Rattle.surface.specs.Rules.{Rules}
-use Rattle.surface.specs.Renumber.{used}
-use Rattle.surface.proofs.TestLaws.{left-of}
-use Rattle.surface.proofs.SumLaws.{every-from, length-below, getD-below}
-use Rattle.surface.proofs.ListLaws.{every-head, every-tail, every-those, every-map, length-those}
-use Rattle.surface.proofs.RenumberLaws.{corners, used-every, length-used-below}
-use Rattle.mesh.specs.Memory.{faceAt, lives, liveFaces}
-use Rattle.mesh.specs.Chains.{Tidy}
-use Rattle.mesh.proofs.Sums.{count-most}
-use Rattle.vertices.specs.Memory.{meshOf, partsOf}
-use Rattle.vertices.proofs.MeshLaws.{mesh-point}
-use Rattle.renumbering.specs.declared.Counts.{Counts}
-use Rattle.renumbering.specs.Written.{Written}
-use Rattle.thinning.specs.Outcomes.{partsIn}
-use Rattle.thinning.specs.Stages.{thinnedIn, Finished}
+use Rattle.lists.specs.Lists.{every, those, below}
+use Rattle.walk.specs.Points.{Rules}
+use Rattle.walk.specs.Output.{used}
+use Rattle.lists.proofs.TestLaws.{left-of}
+use Rattle.lists.proofs.SumLaws.{every-from, length-below, getD-below}
+use Rattle.lists.proofs.ListLaws.{every-head, every-tail, every-those, every-map, length-those}
+use Rattle.walk.proofs.RenumberLaws.{corners, used-every, length-used-below}
+use Rattle.walk.specs.Faces.{faceAt}
+use Rattle.memory.specs.Memory.{lives, liveFaces}
+use Rattle.mesh.specs.Contracts.Chains.{Tidy}
+use Rattle.lists.proofs.BelowSums.{count-most}
+use Rattle.memory.specs.Points.{meshOf, partsOf}
+use Rattle.memory.proofs.MeshLaws.{mesh-point}
+use Rattle.output.specs.declared.Counts.{Counts}
+use Rattle.output.specs.Contracts.Written.{Written}
+use Rattle.meaning.specs.Outcome.{partsIn}
+use Rattle.thinning.specs.Contracts.{thinnedIn, Finished}
 
 -- the numbers below n are below n
 all-below : (n : ℕ) → every (λ x. ltb x n) (below n) ≡ true

@@ -5,9 +5,9 @@ use mathlib.Core.Path.{_≡_}
 use mathlib.Core.List.{List}
 use lib.Ieee.{Float}
 use lib.ListN.{length}
-use Rattle.checks.specs.Verdicts.{Input, pointsIn, facesIn}
+use Rattle.meaning.specs.Input.{Input, pointsIn, facesIn}
 use Rattle.checks.specs.Facts.{Sized}
-use Rattle.thinning.specs.Stages.{Working, Measured}
+use Rattle.thinning.specs.Contracts.{Working, Measured}
 
 module _ (i : Input) (sized : Sized i) where
   pub working : (u : List ℕ) (p q : List Float) → i .rooms .u32s ≡ length u → i .rooms .f32s ≡ length p → i .rooms .f64s ≡ length q →

@@ -7,14 +7,15 @@ use mathlib.Core.Bool.{Bool}
 use lib.Ieee.{Float}
 use lib.ListN.{length}
 use lib.Seq.{take-nil}
-use Rattle.surface.specs.declared.Pair.{Pair}
-use Rattle.checks.specs.declared.Verdict.{Verdict}
-use Rattle.checks.specs.declared.Verdict.the-variants.{Refused, Copied}
-use Rattle.checks.specs.Verdicts.{Input, pointsIn, facesIn, verdictOf}
-use Rattle.thinning.specs.declared.Answer.{Answer}
-use Rattle.thinning.specs.Outcomes.{refusal, outcomeBy, outcome, foldsBy, foldsOf, pairNumbers}
-use Rattle.thinning.specs.Entry.{Answered, listed}
-use Rattle.thinning.specs.Stages.{copyOf}
+use Rattle.walk.specs.declared.Pair.{Pair}
+use Rattle.meaning.specs.declared.Verdict.{Verdict}
+use Rattle.meaning.specs.declared.Verdict.the-variants.{Refused, Copied}
+use Rattle.meaning.specs.Input.{Input, pointsIn, facesIn}
+use Rattle.meaning.specs.Answers.{verdictOf}
+use Rattle.meaning.specs.declared.Answer.{Answer}
+use Rattle.meaning.specs.Outcome.{refusal, outcomeBy, outcome, foldsBy, foldsOf, pairNumbers}
+use Rattle.meaning.specs.Call.{Answered, listed}
+use Rattle.thinning.specs.Contracts.{copyOf}
 
 -- the outcome is that of the verdict
 outcome-of : (i : Input) (preserve : Bool) {d : Verdict} → d ≡ verdictOf i → outcomeBy d i preserve ≡ outcome i preserve

@@ -8,20 +8,22 @@ use lib.Dec.{ltb, eqb}
 use lib.Ieee.{Float}
 use lib.ListN.{length}
 use Rattle.placement.specs.declared.pair.Vertex.{Vertex}
-use Rattle.surface.specs.declared.Face.{Face}
-use Rattle.surface.specs.Folding.{Mesh}
-use Rattle.surface.specs.Renumber.{used, renumbered, numbersOf}
-use Rattle.surface.proofs.TestLaws.{by-test}
-use Rattle.mesh.specs.Memory.{liveFaces}
-use Rattle.mesh.specs.Chains.{Tidy}
-use Rattle.vertices.specs.Memory.{meshOf, partsOf}
-use Rattle.walks.specs.declared.Walked.{Walked}
-use Rattle.walks.specs.Whole.{foldsIn, WalkDone}
-use Rattle.checks.specs.declared.Verdict.{Verdict}
-use Rattle.checks.specs.declared.Verdict.the-variants.{Admitted}
-use Rattle.checks.specs.Verdicts.{Input, pointsIn, facesIn, verdictOf}
-use Rattle.thinning.specs.Outcomes.{rulesIn, startOf, targetOf, lastMesh, foldsWalked, foldsMade, foldsBy, foldsOf, partsIn, Outcome, outcomeBy, outcome}
-use Rattle.thinning.specs.Stages.{LaidOut, stuckOutcome, outcomeIn}
+use Rattle.walk.specs.declared.Face.{Face}
+use Rattle.walk.specs.Points.{Mesh}
+use Rattle.walk.specs.Output.{used, renumbered, numbersOf}
+use Rattle.lists.proofs.TestLaws.{by-test}
+use Rattle.memory.specs.Memory.{liveFaces}
+use Rattle.mesh.specs.Contracts.Chains.{Tidy}
+use Rattle.memory.specs.Points.{meshOf, partsOf}
+use Rattle.plainwalk.specs.declared.Walked.{Walked}
+use Rattle.memory.specs.Entries.{foldsIn}
+use Rattle.plainwalk.specs.Whole.{WalkDone}
+use Rattle.meaning.specs.declared.Verdict.{Verdict}
+use Rattle.meaning.specs.declared.Verdict.the-variants.{Admitted}
+use Rattle.meaning.specs.Input.{Input, pointsIn, facesIn}
+use Rattle.meaning.specs.Answers.{verdictOf}
+use Rattle.meaning.specs.Outcome.{rulesIn, startOf, targetOf, lastMesh, foldsWalked, foldsMade, foldsBy, foldsOf, partsIn, Outcome, outcomeBy, outcome}
+use Rattle.thinning.specs.Contracts.{LaidOut, stuckOutcome, outcomeIn}
 use Rattle.thinning.proofs.MemoryLaws.{parts-written}
 
 -- ---- the outcome hangs on the target, the border points, the folds, the faces left and the parts of their points

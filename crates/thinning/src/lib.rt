@@ -3,33 +3,26 @@ ghost use mathlib.Core.Path.{_≡_};
 ghost use mathlib.Core.Bool.{true};
 ghost use Prim.Native.Nat.{_+_, _*_, _≤_, min};
 ghost use lib.ListN.{length};
-ghost use Rattle.surface.specs.Lists.{every};
-ghost use Rattle.surface.specs.Faces.{proper, facesOf};
-ghost use Rattle.mesh.specs.Memory.{Room, liveFaces};
-ghost use Rattle.mesh.specs.Chains.{Tidy};
-ghost use Rattle.walks.specs.Whole.{foldsIn, WalkDone};
-ghost use Rattle.checks.specs.declared.Verdict.the-variants.{Admitted};
-ghost use Rattle.checks.specs.Verdicts.{verdictOf};
-ghost use Rattle.thinning.specs.Outcomes as Outcomes;
-ghost use Rattle.thinning.specs.Outcomes.{foldsOf};
-ghost use Rattle.thinning.specs.Entry.{largest, inputOf, listed, Leaves, Answered};
-ghost use Rattle.thinning.specs.Stages.{Working, Measured, copyOf, Zeroed, LaidOut, thinnedIn, outcomeIn, Finished};
-use checks::Rooms;
-use checks::Verdict;
+ghost use Rattle.lists.specs.Lists.{every};
+ghost use Rattle.walk.specs.Faces.{proper, facesOf};
+ghost use Rattle.memory.specs.Memory.{Room, liveFaces};
+ghost use Rattle.mesh.specs.Contracts.Chains.{Tidy};
+ghost use Rattle.memory.specs.Entries.{foldsIn};
+ghost use Rattle.plainwalk.specs.Whole.{WalkDone};
+ghost use Rattle.meaning.specs.declared.Verdict.the-variants.{Admitted};
+ghost use Rattle.meaning.specs.Answers.{verdictOf};
+ghost use Rattle.meaning.specs.Outcome as Outcomes;
+ghost use Rattle.meaning.specs.Outcome.{foldsOf};
+ghost use Rattle.meaning.specs.Call.{largest, inputOf, listed, Leaves, Answered};
+ghost use Rattle.thinning.specs.Contracts.{Working, Measured, copyOf, Zeroed, LaidOut, thinnedIn, outcomeIn, Finished};
+use meaning::Answer;
+use meaning::Rooms;
+use meaning::Verdict;
 use placement::Limit;
-use walks::Walked;
+use plainwalk::Walked;
 
 // No coordinate is larger: 1,048,576.
 const BOUND: f32 = 1048576.0;
-
-// What a call answers: a number and its place, and on 0 the points and faces written and the folds made.
-pub struct Answer {
-    pub number: u32,
-    pub place: u32,
-    pub points: u32,
-    pub faces: u32,
-    pub folds: u32,
-}
 
 // How the mesh is walked: by every cost worked out anew, or by a queue. The two have one statement.
 enum Engine {
@@ -67,9 +60,9 @@ fn clear(w: &mut [u32], p: &mut [f32], q: &mut [f64], v: usize, f: usize)
     requires { ⌜ Working v f (now w) (now p) (now q) ⌝ }
     ensures { λ _. ⌜ Zeroed v f (now (w .entry)) (now (p .entry)) (now (q .entry)) (now (w .exit)) (now (p .exit)) (now (q .exit)) ⌝ }
 {
-    renumbering::clear_u32(w, 16 * v + 32 * f);
-    renumbering::clear_f32(p, 4 * v + 12 * f);
-    renumbering::clear_f64(q, 16 * v + 6 * f);
+    output::clear_u32(w, 16 * v + 32 * f);
+    output::clear_f32(p, 4 * v + 12 * f);
+    output::clear_f64(q, 16 * v + 6 * f);
 }
 
 // Ratio zero: the mesh is copied unchanged.
@@ -87,7 +80,7 @@ fn copied(
     requires { ⌜ Measured v f (now points) (now faces) (now «out_points») (now «out_faces») ⌝ ∗ ⌜ Working v f (now w) (now p) (now q) ⌝ }
     ensures { λ r. ⌜ Leaves v f (copyOf v f (now (points .entry)) (now (faces .entry))) (now («out_points» .entry)) (now («out_faces» .entry)) (now (w .entry)) (now (p .entry)) (now (q .entry)) (now («out_points» .exit)) (now («out_faces» .exit)) (now (w .exit)) (now (p .exit)) (now (q .exit)) r ⌝ }
 {
-    renumbering::copy_mesh(points, faces, out_points, out_faces);
+    output::copy_mesh(points, faces, out_points, out_faces);
     clear(w, p, q, v, f);
     Answer {
         number: 0,
@@ -113,9 +106,9 @@ fn laid_out(
     ensures { λ n. ⌜ LaidOut v f (now (points .entry)) (now (faces .entry)) preserve (now (w .entry)) (now (p .entry)) (now (q .entry)) (now (w .exit)) (now (p .exit)) (now (q .exit)) n ⌝ }
 {
     mesh::lay_faces(faces, w, v, f);
-    let borders = marks::mark_borders(w, v, f, preserve);
-    vertices::lay_points(points, p, v);
-    vertices::lay_quadrics(w, p, q, v, f);
+    let borders = ring::mark_borders(w, v, f, preserve);
+    mesh::lay_points(points, p, v);
+    mesh::lay_quadrics(w, p, q, v, f);
     borders
 }
 
@@ -134,7 +127,7 @@ fn walk_by(
     ensures { λ r. ⌜ WalkDone v f (now (w .entry)) (now (p .entry)) (now (q .entry)) target limit largest (now (w .exit)) (now (p .exit)) (now (q .exit)) r ⌝ }
 {
     match engine {
-        Engine::Plain => walks::plain_walk(w, p, q, v, f, target, limit, BOUND),
+        Engine::Plain => plainwalk::plain_walk(w, p, q, v, f, target, limit, BOUND),
         Engine::Heap => heapwalk::heap_walk(w, p, q, v, f, target, limit, BOUND),
     }
 }
@@ -192,7 +185,7 @@ fn written(
     requires { ⌜ Tidy v f (now w) ⌝ ∗ ⌜ 3 * v ≤ length (now p) ⌝ ∗ ⌜ 3 * v ≤ length (now «out_points») ⌝ ∗ ⌜ 3 * f ≤ length (now «out_faces») ⌝ ∗ ⌜ folds ≤ f ⌝ }
     ensures { λ r. ⌜ Finished v f (thinnedIn f folds (now (w .entry)) (now (p .entry))) (now (w .entry)) (now («out_points» .entry)) (now («out_faces» .entry)) (now (w .exit)) (now («out_points» .exit)) (now («out_faces» .exit)) r ⌝ }
 {
-    let counts = renumbering::write_mesh(w, p, v, f, out_points, out_faces);
+    let counts = output::write_mesh(w, p, v, f, out_points, out_faces);
     Answer {
         number: 0,
         place: 0,

@@ -4,7 +4,7 @@ use Prim.Native.Nat.{_-_}
 use native.Mathlib.Omega.{arith}
 use mathlib.Core.Path.{ap, _∙_}
 use borrow.Author.Needs.{needs}
-use Rattle.checks.specs.Verdicts.{outside, doubled}
+use Rattle.meaning.specs.Answers.{outside, doubled}
 use Rattle.checks.proofs.FaceLaws.{Passed, none-passed, eight, nine, one-more-passed, all-passed}
 use Rattle.checks.proofs.check_faces.Statement.{statement}
 use Rattle.checks.proofs.check_faces.Tie as tie

@@ -5,8 +5,8 @@ use mathlib.Core.Path.{sym, _∙_}
 use borrow.Author.Needs.{needs}
 use lib.ListN.{length}
 use lib.Ieee.{nan}
-use Rattle.checks.specs.Verdicts.{badCoordinate}
-use Rattle.checks.proofs.ListLaws.{Searched, start, found, passed, none-left}
+use Rattle.meaning.specs.Answers.{badCoordinate}
+use Rattle.checks.proofs.SearchLaws.{Searched, start, found, passed, none-left}
 use Rattle.checks.proofs.first_bad.Statement.{statement}
 use Rattle.checks.proofs.first_bad.Tie as tie
 

@@ -1,7 +1,7 @@
 -- `checks::verdict_of` meets its contract: at each return the tests made before did not hold, and the last one did.
 -- Assumes nothing.
 use borrow.Author.Needs.{needs}
-use Rattle.checks.specs.Verdicts.{verdictOf}
+use Rattle.meaning.specs.Answers.{verdictOf}
 use Rattle.checks.proofs.OrderLaws.{decides, goes-on, found-not, not-large}
 use Rattle.checks.proofs.verdict_of.Statement.{statement}
 use Rattle.checks.proofs.verdict_of.Tie as tie

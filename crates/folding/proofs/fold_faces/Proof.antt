@@ -6,8 +6,8 @@ use mathlib.Core.Bool.{_&&_}
 use lib.Dec.{eqb}
 use borrow.Author.Needs.{needs}
 use denote.Ref.{now}
-use Rattle.mesh.specs.Memory.{corner, lives}
-use Rattle.mesh.proofs.Frames.{but-then}
+use Rattle.memory.specs.Memory.{corner, lives}
+use Rattle.lists.proofs.FrameLaws.{but-then}
 use Rattle.folding.proofs.RelistLaws.{Relisted}
 use Rattle.folding.proofs.FoldedLaws.{Dropped, dropped, gathered-inside, inside-still, near-again, far-again, folded}
 use Rattle.folding.proofs.fold_faces.Statement.{statement}

@@ -5,10 +5,10 @@ use native.Mathlib.Nat.{le-antisymm}
 use native.Mathlib.Omega.{arith}
 use mathlib.Core.Path.{refl, sym}
 use borrow.Author.Needs.{needs}
-use Rattle.mesh.specs.Memory.{faceAt}
-use Rattle.marks.proofs.SlotLaws.{slot-below, slot-proper}
-use Rattle.marks.proofs.TurnLaws.{NoneOf, none-yet, none-more, one-found}
-use Rattle.foldtest.specs.Fair.{harmed}
+use Rattle.walk.specs.Faces.{faceAt}
+use Rattle.ring.proofs.SlotLaws.{slot-below, slot-proper}
+use Rattle.ring.proofs.TurnLaws.{NoneOf, none-yet, none-more, one-found}
+use Rattle.foldtest.specs.Contracts.Fair.{harmed}
 use Rattle.foldtest.proofs.has_harmed.Statement.{statement}
 use Rattle.foldtest.proofs.has_harmed.Tie as tie
 

@@ -1,6 +1,6 @@
 -- `foldtest::is_fair_around` meets its contract: a live face that holds just one of the two points is in one of the two lists.
 -- Assumes nothing.
-use Rattle.marks.proofs.SlotLaws.{around-listed}
+use Rattle.ring.proofs.SlotLaws.{around-listed}
 use Rattle.foldtest.proofs.HarmLaws.{not-fair, fair-decided}
 use Rattle.foldtest.proofs.is_fair_around.Statement.{statement}
 use Rattle.foldtest.proofs.is_fair_around.Tie as tie

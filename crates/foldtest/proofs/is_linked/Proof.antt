@@ -2,7 +2,7 @@
 -- Assumes nothing.
 use mathlib.Core.Path.{refl}
 use borrow.Author.Needs.{needs}
-use Rattle.marks.proofs.AroundLaws.{may-count}
+use Rattle.ring.proofs.AroundLaws.{may-count}
 use Rattle.foldtest.proofs.LinkLaws.{not-linked, link-decided}
 use Rattle.foldtest.proofs.is_linked.Statement.{statement}
 use Rattle.foldtest.proofs.is_linked.Tie as tie

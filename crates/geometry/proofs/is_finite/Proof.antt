@@ -1,4 +1,4 @@
--- `is_finite` meets its contract: 1.0 / 0.0 is an infinity, and `between` says what the two tests together say. Assumes nothing.
+-- `geometry::is_finite` meets its contract: 1.0 / 0.0 is an infinity, and `between` says what the two tests together say. Assumes nothing.
 use lib.Ieee.{div, neg, ofBits}
 use Rattle.geometry.proofs.Finite.{between}
 use Rattle.geometry.proofs.is_finite.Statement.{statement}

@@ -1,4 +1,4 @@
--- `normal` meets its contract: the cross of two differences, from what the three calls ensure. Assumes nothing.
+-- `geometry::normal` meets its contract: the cross of two differences, from what the three calls ensure. Assumes nothing.
 use Rattle.geometry.specs.Points.{normal}
 use Rattle.geometry.proofs.normal.Statement.{statement}
 use Rattle.geometry.proofs.normal.Tie as tie

@@ -1,4 +1,4 @@
--- `plane_of` meets its contract: the level plane where the normal isn't finite, and else the plane through the first corner.
+-- `geometry::plane_of` meets its contract: the level plane where the normal isn't finite, and else the plane through the first corner.
 -- Assumes nothing.
 use Rattle.geometry.specs.Planes.{planeOf}
 use Rattle.geometry.proofs.plane_of.Statement.{statement}

@@ -1,4 +1,4 @@
--- `unit_normal` meets its contract: the normal over its norm, from what the three calls ensure. Assumes nothing.
+-- `geometry::unit_normal` meets its contract: the normal over its norm, from what the three calls ensure. Assumes nothing.
 use Rattle.geometry.specs.Planes.{unitNormal}
 use Rattle.geometry.proofs.unit_normal.Statement.{statement}
 use Rattle.geometry.proofs.unit_normal.Tie as tie

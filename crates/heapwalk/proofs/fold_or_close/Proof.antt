@@ -4,10 +4,10 @@ use native.Mathlib.Omega.{arith}
 use borrow.Author.Needs.{needs}
 use mathlib.Core.Path.{_≡_, _∙_}
 use mathlib.Core.Bool.{true, false}
-use Rattle.surface.specs.Folding.{allowed}
-use Rattle.surface.specs.Walk.{pairOf}
-use Rattle.vertices.specs.Memory.{meshOf}
-use Rattle.vertices.specs.Rules.{rulesOf}
+use Rattle.walk.specs.FoldTest.{allowed}
+use Rattle.walk.specs.Pairs.{pairOf}
+use Rattle.memory.specs.Points.{meshOf}
+use Rattle.meaning.specs.Arithmetic.{rulesOf}
 use Rattle.foldtest.proofs.AllowedLaws.{allowed-is}
 use Rattle.heapwalk.proofs.MemoryLaws.{pair-points}
 use Rattle.heapwalk.proofs.AnswerLaws.{tried-by, closed-done}

@@ -2,7 +2,7 @@
 -- Assumes nothing.
 use native.Mathlib.Omega.{arith}
 use borrow.Author.Needs.{needs}
-use Rattle.folding.specs.Folds.{MeshFolded}
+use Rattle.folding.specs.Contracts.Folds.{MeshFolded}
 use Rattle.heapwalk.proofs.MemoryLaws.{pair-points, pair-differ}
 use Rattle.heapwalk.proofs.FoldedLaws.{folded-live, keep-grows, remove-grows, stamped-open, room-left, folded-done}
 use Rattle.heapwalk.proofs.fold_top.Statement.{statement}

@@ -2,7 +2,7 @@
 -- Assumes nothing.
 use native.Mathlib.Omega.{arith}
 use borrow.Author.Needs.{needs}
-use Rattle.queue.specs.Changes.{TakenOff}
+use Rattle.queue.specs.Contracts.Changes.{TakenOff}
 use Rattle.heapwalk.proofs.AnswerLaws.{at-target, none-left}
 use Rattle.heapwalk.proofs.TakenLaws.{took-entry, took-none, top-holds, taken-step}
 use Rattle.heapwalk.proofs.heap_step.Statement.{statement}

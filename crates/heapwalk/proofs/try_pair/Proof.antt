@@ -4,7 +4,7 @@ use Prim.Native.Nat.{_+_, _*_, _≤_}
 use native.Mathlib.Omega.{arith}
 use borrow.Author.Needs.{needs}
 use lib.ListN.{length}
-use Rattle.walks.proofs.AnswerLaws.{both-listed, listed-but}
+use Rattle.plainwalk.proofs.AnswerLaws.{both-listed, listed-but}
 use Rattle.heapwalk.proofs.MemoryLaws.{pair-points, pair-but}
 use Rattle.heapwalk.proofs.AnswerLaws.{tried-before}
 use Rattle.heapwalk.proofs.try_pair.Statement.{statement}

@@ -2,9 +2,9 @@
 -- folds made on the way are written down. The measure is the plain walk's budget. Assumes nothing.
 use native.Mathlib.Omega.{arith}
 use borrow.Author.Needs.{needs}
-use Rattle.surface.specs.Walk.{budget}
-use Rattle.queue.specs.Memory.{heapState}
-use Rattle.walks.proofs.GoingLaws.{Going, going-start, folds-few, room-folded, turn-folded, turn-closed, less-folded, less-closed, going-end}
+use Rattle.walk.specs.Walk.{budget}
+use Rattle.queue.specs.State.{heapState}
+use Rattle.plainwalk.proofs.GoingLaws.{Going, going-start, folds-few, room-folded, turn-folded, turn-closed, less-folded, less-closed, going-end}
 use Rattle.heapwalk.proofs.HoldLaws.{byHeap, heap-step}
 use Rattle.heapwalk.proofs.walk_on.Statement.{statement}
 use Rattle.heapwalk.proofs.walk_on.Tie as tie

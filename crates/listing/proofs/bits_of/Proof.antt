@@ -1,5 +1,5 @@
 -- `listing::bits_of` meets its contract: only a NaN is unlike itself. Assumes nothing.
-use mathlib.Core.Path.{_≡_, refl, sym, ap, _∙_}
+use mathlib.Core.Path.{sym, ap}
 use lib.Ieee.{binary32, toBits}
 use Rattle.bits.proofs.NotANumber.{only-nan, equals-itself}
 use borrow.Author.Needs.{needs}

@@ -1,9 +1,8 @@
 -- `patterns::counted` is proved: the buffer keeps its 24 bytes, and what is left of a million records falls.
 -- Assumes nothing.
-use Prim.Native.Nat.{ℕ, _-_, _≤_}
+use Prim.Native.Nat.{_-_, _≤_}
 use mathlib.Core.Path.{_≡_}
 use lib.ListN.{length}
-use native.Mathlib.Omega.{arith}
 use borrow.Author.Needs.{needs}
 use Rattle.patterns.proofs.counted.Statement.{statement}
 use Rattle.patterns.proofs.counted.Tie as tie

@@ -1,4 +1,4 @@
--- `is_above` meets its contract, in each case of the limit. Assumes nothing.
+-- `placement::is_above` meets its contract, in each case of the limit. Assumes nothing.
 use borrow.Author.Needs.{needs}
 use Rattle.placement.proofs.is_above.Statement.{statement}
 use Rattle.placement.proofs.is_above.Tie as tie

@@ -1,4 +1,4 @@
--- `kind_of` meets its contract: the definition tests the number as the code does. Assumes nothing.
+-- `placement::kind_of` meets its contract: the definition tests the number as the code does. Assumes nothing.
 use borrow.Author.Tests.{eq-eqb, ne-eqb}
 use Rattle.placement.proofs.kind_of.Statement.{statement}
 use Rattle.placement.proofs.kind_of.Tie as tie

@@ -3,8 +3,8 @@
 use Prim.Native.Nat.{_+_, _*_, _≤_, _-_}
 use native.Mathlib.Omega.{arith}
 use borrow.Author.Needs.{needs}
-use Rattle.mesh.specs.Laying.{Written}
-use Rattle.mesh.proofs.WrittenLaws.{written-none, written-more, written-all}
+use Rattle.lists.specs.Frames.{Written}
+use Rattle.lists.proofs.WrittenLaws.{written-none, written-more, written-all}
 use Rattle.queue.proofs.EmptyLaws.{emptied}
 use Rattle.queue.proofs.empty.Statement.{statement}
 use Rattle.queue.proofs.empty.Tie as tie

@@ -6,7 +6,7 @@ use mathlib.Core.Path.{ap, _∙_}
 use borrow.Author.Needs.{needs}
 use lib.ListN.{length}
 use lib.Seq.{lt-length-set}
-use Rattle.pairs.proofs.OpenLaws.{pushed-but}
+use Rattle.openpairs.proofs.OpenLaws.{pushed-but}
 use Rattle.queue.proofs.put_entry.Statement.{statement}
 use Rattle.queue.proofs.put_entry.Tie as tie
 

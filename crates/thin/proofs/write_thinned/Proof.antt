@@ -1,10 +1,7 @@
 -- `thin::write_thinned` meets its contract: the library's call leaves the outcome, and its mesh is listed. Assumes nothing.
-use native.Mathlib.Omega.{arith}
-use mathlib.Core.Path.{_≡_}
 use borrow.Author.Needs.{needs}
-use lib.ListN.{length}
-use Rattle.checks.specs.Verdicts.{Input}
-use Rattle.thinning.specs.Outcomes.{Outcome, outcome}
+use Rattle.meaning.specs.Input.{Input}
+use Rattle.meaning.specs.Outcome.{Outcome, outcome}
 use Rattle.thin.specs.Replies.{callOf}
 use Rattle.thin.proofs.OutcomeLaws.{counted}
 use Rattle.thin.proofs.ReplyLaws.{same-call, shown, outcome-texted}

@@ -4,12 +4,12 @@ use native.Mathlib.Omega.{arith}
 use mathlib.Core.Path.{_≡_, refl}
 use lib.ListN.{length}
 use borrow.Author.Needs.{needs}
-use Rattle.checks.specs.Verdicts.{Input, pointsIn, facesIn}
+use Rattle.meaning.specs.Input.{Input, pointsIn, facesIn}
 use Rattle.checks.specs.Facts.{Admissible}
 use Rattle.checks.proofs.VerdictLaws as verdicts
-use Rattle.thinning.specs.Outcomes.{targetOf}
-use Rattle.thinning.specs.Entry.{inputOf}
-use Rattle.thinning.specs.Stages.{Working}
+use Rattle.meaning.specs.Outcome.{targetOf}
+use Rattle.meaning.specs.Call.{inputOf}
+use Rattle.thinning.specs.Contracts.{Working}
 use Rattle.thinning.proofs.FrameLaws.{zeroed-lengths}
 use Rattle.thinning.proofs.SizeLaws.{working}
 use Rattle.thinning.proofs.AdmittedLaws.{walk-asked, points-stay, counts-few, folds-listed, clear-asked, zeroed-all, left}

@@ -2,7 +2,7 @@
 -- Assumes nothing.
 use borrow.Author.Needs.{needs}
 use mathlib.Core.Path.{refl}
-use Rattle.mesh.proofs.Frames.{but-refl}
+use Rattle.lists.proofs.FrameLaws.{but-refl}
 use Rattle.thinning.proofs.finished.Statement.{statement}
 use Rattle.thinning.proofs.finished.Tie as tie
 

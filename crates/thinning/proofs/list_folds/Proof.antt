@@ -5,7 +5,7 @@ use native.Mathlib.Omega.{arith}
 use mathlib.Core.Path.{_≡_, refl}
 use lib.ListN.{length, length-set}
 use borrow.Author.Needs.{needs}
-use Rattle.renumbering.proofs.OverLaws.{copied}
+use Rattle.lists.proofs.OverlayLaws.{copied}
 use Rattle.thinning.proofs.FoldListLaws.{row, row-more, row-all}
 use Rattle.thinning.proofs.list_folds.Statement.{statement}
 use Rattle.thinning.proofs.list_folds.Tie as tie

@@ -2,10 +2,11 @@
 -- Assumes nothing.
 use mathlib.Core.Path.{_≡_, refl, sym, _∙_}
 use borrow.Author.Needs.{needs}
-use Rattle.checks.specs.declared.Verdict.the-variants.{Copied}
-use Rattle.checks.specs.Verdicts.{Input, verdictOf}
+use Rattle.meaning.specs.declared.Verdict.the-variants.{Copied}
+use Rattle.meaning.specs.Input.{Input}
+use Rattle.meaning.specs.Answers.{verdictOf}
 use Rattle.checks.proofs.VerdictLaws as verdicts
-use Rattle.thinning.specs.Entry.{inputOf}
+use Rattle.meaning.specs.Call.{inputOf}
 use Rattle.thinning.proofs.SizeLaws.{working, measured}
 use Rattle.thinning.proofs.VerdictLaws as outcomes
 use Rattle.thinning.proofs.thin_by.Statement.{statement}

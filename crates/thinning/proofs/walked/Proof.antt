@@ -1,7 +1,7 @@
 -- `thinning::walked` meets its contract: the walk makes at most as many folds as there are faces, so they are all written down.
 -- Assumes nothing.
 use native.Mathlib.Omega.{arith}
-use Rattle.walks.proofs.Theorems.{plain-walk-fewer}
+use Rattle.plainwalk.proofs.Theorems.{plain-walk-fewer}
 use borrow.Author.Needs.{needs}
 use Rattle.thinning.proofs.walked.Statement.{statement}
 use Rattle.thinning.proofs.walked.Tie as tie

@@ -1,4 +1,4 @@
--- `cut` is Rust's `as u64` for every float. In the range the standard library cuts; below it, and for a NaN, the definition says 0, and
+-- `bits::cut::cut` is Rust's `as u64` for every float. In the range the standard library cuts; below it, and for a NaN, the definition says 0, and
 -- above it the largest u64.
 use mathlib.Core.Path.{_≡_, refl, sym, subst}
 use mathlib.Core.Bool.{true, false, true≢false}

@@ -1,4 +1,4 @@
--- `target` is the definition, step for step: the product that the code works out is the one that is cut.
+-- `bits::cut::target` is the definition, step for step: the product that the code works out is the one that is cut.
 use mathlib.Core.Path.{_≡_, refl, _∙_}
 use Prim.Native.Nat.{ℕ}
 use lib.IntN.{pos}

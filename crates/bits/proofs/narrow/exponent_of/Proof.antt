@@ -1,4 +1,4 @@
--- `exponent_of` meets its contract: the field has eleven bits, so that its difference with 1023 fits an i64, which keeps it
+-- `bits::narrow::exponent_of` meets its contract: the field has eleven bits, so that its difference with 1023 fits an i64, which keeps it
 -- (`exponent-fits`, `kept`). Assumes nothing.
 use native.Mathlib.Omega.{arith}
 use mathlib.Core.Path.{refl}

@@ -1,4 +1,4 @@
--- `narrow` meets its contract: only a NaN differs from itself, and 0.0 / 0.0 is one. Any other value has a pattern, and what is read
+-- `bits::narrow::narrow` meets its contract: only a NaN differs from itself, and 0.0 / 0.0 is one. Any other value has a pattern, and what is read
 -- from the narrowed pattern is the narrowed value, which is no NaN (`narrowed-is`, `narrowed-number`). Assumes nothing.
 use mathlib.Core.Path.{sym, _∙_, ap, subst}
 use lib.Dec.{T}

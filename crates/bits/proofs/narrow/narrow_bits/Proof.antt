@@ -1,4 +1,4 @@
--- `narrow_bits` meets its contract: a test of the signed exponent is a test of the field, and what fails the test for the normal
+-- `bits::narrow::narrow_bits` meets its contract: a test of the signed exponent is a test of the field, and what fails the test for the normal
 -- range lies on one side of it. Assumes nothing.
 use Prim.Native.Nat.{_+_, _-_}
 use mathlib.Core.Logic.{inl, inr, ⊎-elim}

@@ -1,4 +1,4 @@
--- `narrow_normal` meets its contract, by the law for the normal range (`normal-is`). The sum fits, since rounding adds at most
+-- `bits::narrow::narrow_normal` meets its contract, by the law for the normal range (`normal-is`). The sum fits, since rounding adds at most
 -- one to what is left of the size (`closest-le`). Assumes nothing.
 use Prim.Native.Nat.{_-_, _*_, _%_, _^_}
 use native.Mathlib.Omega.{arith}

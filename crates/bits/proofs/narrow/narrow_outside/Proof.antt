@@ -1,4 +1,4 @@
--- `narrow_outside` meets its contract, by the laws for zero, a NaN and infinity. A test of the signed exponent is a test of the
+-- `bits::narrow::narrow_outside` meets its contract, by the laws for zero, a NaN and infinity. A test of the signed exponent is a test of the
 -- field, and what is negative and not subnormal is below 2^-150 (`tiny`). Assumes nothing.
 use Prim.Native.Nat.{_+_, _-_, _≤_, _<_}
 use mathlib.Core.Path.{sym}

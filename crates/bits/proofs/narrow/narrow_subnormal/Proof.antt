@@ -1,4 +1,4 @@
--- `narrow_subnormal` meets its contract, by the law for what is below the normal range (`subnormal-is`). The signed difference is
+-- `bits::narrow::narrow_subnormal` meets its contract, by the law for what is below the normal range (`subnormal-is`). The signed difference is
 -- the number of places to drop (`places`). Assumes nothing.
 use Prim.Native.Nat.{_-_, _^_}
 use mathlib.Core.Path.{_≡_}

@@ -1,4 +1,4 @@
--- `nearest_even` meets its contract: the shift makes a half of the unit (`halved`), and raising by just under it and by the
+-- `bits::narrow::nearest_even` meets its contract: the shift makes a half of the unit (`halved`), and raising by just under it and by the
 -- last digit rounds to nearest, ties to even (`half-even`). Assumes nothing.
 use Prim.Native.Nat.{_-_, _^_}
 use native.Mathlib.Omega.{arith}

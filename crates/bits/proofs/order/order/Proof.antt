@@ -1,4 +1,4 @@
--- `order` gives the key of every float. `x != x` parts the NaN, whose pattern in the definition is 7ff8000000000000, from the floats whose
+-- `bits::order::order` gives the key of every float. `x != x` parts the NaN, whose pattern in the definition is 7ff8000000000000, from the floats whose
 -- bits can be read. Either way the rest is what `order_bits` ensures.
 use mathlib.Core.Path.{_≡_, refl, sym, ap, _∙_}
 use lib.Ieee.{nan}

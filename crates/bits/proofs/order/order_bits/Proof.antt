@@ -1,4 +1,4 @@
--- `order_bits` gives the key of every pattern. The branch is the test of `orderKey`, and each side is read as a signed number:
+-- `bits::order::order_bits` gives the key of every pattern. The branch is the test of `orderKey`, and each side is read as a signed number:
 -- m itself, and !m as `negsuc m`, which is -1 - m.
 use mathlib.Core.Path.{_≡_, _∙_}
 use Prim.Native.Nat.{ℕ, suc, _-_, _^_, _<_}

@@ -1,7 +1,7 @@
 -- `bits::root::corrected` meets its contract. The way down keeps the guess in range and ends with the half-way point below it, squared, under n.
 -- The way up keeps that, and ends with the one above it over n. Assumes nothing.
-use Prim.Native.Nat.{ℕ, _+_, _-_, _*_, _≤_, _<_}
-use native.Mathlib.Nat.{mul-le-mul-right, le-of-lt}
+use Prim.Native.Nat.{_+_, _-_, _*_, _≤_, _<_}
+use native.Mathlib.Nat.{mul-le-mul-right}
 use native.Mathlib.Omega.{arith}
 use Rattle.bits.proofs.RootScaled.{root-high, square-next}
 use Rattle.bits.proofs.root.corrected.Statement.{statement}

@@ -1,7 +1,7 @@
 -- `bits::root::root` meets its contract. Assumes nothing.
-use mathlib.Core.Path.{_≡_, refl, sym, ap, _∙_}
+use mathlib.Core.Path.{sym, ap, _∙_}
 use lib.Ieee.{binary32, ofBits}
-use Rattle.bits.specs.Root.{rootBits, root}
+use Rattle.bits.specs.Root.{root}
 use Rattle.bits.proofs.NotANumber.{only-nan, equals-itself, nan-pattern, zero-by-zero}
 use Rattle.bits.proofs.RootLaws.{root-no-nan, root-of-nan}
 use borrow.Author.Needs.{needs}

@@ -1,6 +1,6 @@
 -- `bits::root::root_bits` meets its contract, case by case: a finite pattern by the statement, which has one answer; the others are tests.
 -- Assumes nothing.
-use mathlib.Core.Path.{_≡_, refl, sym, ap, _∙_}
+use mathlib.Core.Path.{sym, ap, _∙_}
 use native.Mathlib.Omega.{arith}
 use Rattle.bits.specs.Root.{rootBits}
 use Rattle.bits.proofs.RootLaws.{nearest-is-root, rootBits-finite, rootBits-other}

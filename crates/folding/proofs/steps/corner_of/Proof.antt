@@ -6,8 +6,8 @@ use mathlib.Core.Bool.{true, false}
 use lib.Dec.{eqb}
 use borrow.Author.Tests.{eq-eqb, ne-eqb}
 use denote.Ref.{now}
-use Rattle.mesh.specs.Memory.{corner}
-use Rattle.folding.specs.Steps.{cornerOf}
+use Rattle.memory.specs.Memory.{corner}
+use Rattle.folding.specs.Contracts.Steps.{cornerOf}
 use borrow.Author.Needs.{needs}
 use Rattle.folding.proofs.steps.corner_of.Statement.{statement}
 use Rattle.folding.proofs.steps.corner_of.Tie as tie

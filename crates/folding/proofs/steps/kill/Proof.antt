@@ -5,12 +5,10 @@ use native.Mathlib.Omega.{arith}
 use mathlib.Core.Path.{_≡_}
 use lib.ListN.{getD}
 use denote.Ref.{now}
-use Rattle.surface.specs.Lists.{count}
-use Rattle.surface.specs.Faces.{holds}
-use Rattle.surface.proofs.TestLaws.{flag-le}
-use Rattle.mesh.specs.Memory.{faceAt}
-use Rattle.mesh.specs.Around.{slots}
-use Rattle.folding.specs.Steps.{killed}
+use Rattle.lists.specs.Lists.{count, stretch}
+use Rattle.walk.specs.Faces.{holds, faceAt}
+use Rattle.lists.proofs.TestLaws.{flag-le}
+use Rattle.folding.specs.Contracts.Steps.{killed}
 use Rattle.folding.proofs.TurnLaws.{Turning, turn-start, turn-slot, turn-inside, turn-next, turn-end}
 use Rattle.folding.proofs.KillLaws.{killed-but, kill-none, kill-count, kill-counted}
 use Rattle.folding.proofs.steps.kill.Statement.{statement}
@@ -18,7 +16,7 @@ use Rattle.folding.proofs.steps.kill.Tie as tie
 
 abbrev Inv-loop : tie.InvT-loop
 Inv-loop w₀ f list n x gone₀ i₀ w gone i =
-    Turning (killed f x) (3 * f) (4 * f) w₀ list n i w × (gone ≡ count (λ k. holds x (faceAt w₀ k)) (slots w₀ list i)) × (gone ≤ i)
+    Turning (killed f x) (3 * f) (4 * f) w₀ list n i w × (gone ≡ count (λ k. holds x (faceAt w₀ k)) (stretch w₀ list i)) × (gone ≤ i)
 
 abbrev μ-loop : tie.MeasureT-loop
 μ-loop w₀ f list n x gone₀ i₀ w gone i = n - i

@@ -3,9 +3,8 @@
 use mathlib.Core.Path.{_≡_, sym, ap, _∙_}
 use mathlib.Core.Bool.{true, false}
 use denote.Ref.{now}
-use Rattle.surface.specs.Faces.{holds}
-use Rattle.mesh.specs.Memory.{faceAt}
-use Rattle.folding.specs.Steps.{killed}
+use Rattle.walk.specs.Faces.{holds, faceAt}
+use Rattle.folding.specs.Contracts.Steps.{killed}
 use borrow.Author.Needs.{needs}
 use Rattle.folding.proofs.steps.kill_face.Statement.{statement}
 use Rattle.folding.proofs.steps.kill_face.Tie as tie

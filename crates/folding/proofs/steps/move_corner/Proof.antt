@@ -1,7 +1,7 @@
 -- `folding::steps::move_corner` meets its contract: the two writes, one after the other, are `moved`.
 -- Assumes nothing.
 use mathlib.Core.Path.{_∙_}
-use Rattle.folding.specs.Steps.{moved}
+use Rattle.folding.specs.Contracts.Steps.{moved}
 use borrow.Author.Needs.{needs}
 use Rattle.folding.proofs.steps.move_corner.Statement.{statement}
 use Rattle.folding.proofs.steps.move_corner.Tie as tie

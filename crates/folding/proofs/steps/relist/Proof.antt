@@ -3,7 +3,7 @@
 use Prim.Native.Nat.{_+_, _-_, _<_}
 use native.Mathlib.Omega.{arith}
 use lib.ListN.{getD}
-use Rattle.folding.specs.Steps.{relisted}
+use Rattle.folding.specs.Contracts.Steps.{relisted}
 use Rattle.folding.proofs.TurnLaws.{Turning, turn-start, turn-inside, turn-next, turn-end}
 use Rattle.folding.proofs.RelistLaws.{relisted-but}
 use Rattle.folding.proofs.steps.relist.Statement.{statement}

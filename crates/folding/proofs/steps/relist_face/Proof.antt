@@ -5,8 +5,8 @@ use mathlib.Core.Path.{_≡_, sym, _∙_}
 use mathlib.Core.Bool.{true, false}
 use borrow.Author.Tests.{eq-eqb, ne-eqb}
 use denote.Ref.{now}
-use Rattle.mesh.specs.Memory.{lives}
-use Rattle.folding.specs.Steps.{relisted}
+use Rattle.memory.specs.Memory.{lives}
+use Rattle.folding.specs.Contracts.Steps.{relisted}
 use Rattle.folding.proofs.CornerLaws.{corner-slot}
 use borrow.Author.Needs.{needs}
 use Rattle.folding.proofs.steps.relist_face.Statement.{statement}

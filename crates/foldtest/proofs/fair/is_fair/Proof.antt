@@ -1,6 +1,6 @@
 -- `foldtest::fair::is_fair` meets its contract: the two normals, tested.
 -- Assumes nothing.
-use Rattle.vertices.specs.Rules.{fairPoints}
+use Rattle.meaning.specs.Arithmetic.{fairPoints}
 use Rattle.foldtest.proofs.fair.is_fair.Statement.{statement}
 use Rattle.foldtest.proofs.fair.is_fair.Tie as tie
 

@@ -1,4 +1,4 @@
--- `Point::all_finite` meets its contract: three tests, each of a part that widening leaves as it is. Assumes nothing.
+-- `geometry::Point::all_finite` meets its contract: three tests, each of a part that widening leaves as it is. Assumes nothing.
 use Rattle.geometry.specs.Points.{allFinite}
 use Rattle.geometry.proofs.Point.all_finite.Statement.{statement}
 use Rattle.geometry.proofs.Point.all_finite.Tie as tie

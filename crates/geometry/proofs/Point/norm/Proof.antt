@@ -1,4 +1,4 @@
--- `Point::norm` meets its contract: the root of the dot with itself, from what the two calls ensure. Assumes nothing.
+-- `geometry::Point::norm` meets its contract: the root of the dot with itself, from what the two calls ensure. Assumes nothing.
 use Rattle.geometry.specs.Points.{norm}
 use Rattle.geometry.proofs.Point.norm.Statement.{statement}
 use Rattle.geometry.proofs.Point.norm.Tie as tie

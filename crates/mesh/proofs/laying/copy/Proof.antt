@@ -3,8 +3,8 @@
 use Prim.Native.Nat.{_≤_, _-_}
 use native.Mathlib.Omega.{arith}
 use lib.ListN.{getD}
-use Rattle.mesh.specs.Laying.{Written}
-use Rattle.mesh.proofs.WrittenLaws.{written-none, written-more, written-all}
+use Rattle.lists.specs.Frames.{Written}
+use Rattle.lists.proofs.WrittenLaws.{written-none, written-more, written-all}
 use Rattle.mesh.proofs.laying.copy.Statement.{statement}
 use Rattle.mesh.proofs.laying.copy.Tie as tie
 

@@ -2,8 +2,8 @@
 -- The measure is what is left of `n`. Assumes nothing.
 use Prim.Native.Nat.{_≤_, _-_}
 use native.Mathlib.Omega.{arith}
-use Rattle.mesh.specs.Laying.{Written}
-use Rattle.mesh.proofs.WrittenLaws.{written-none, written-more, written-all}
+use Rattle.lists.specs.Frames.{Written}
+use Rattle.lists.proofs.WrittenLaws.{written-none, written-more, written-all}
 use Rattle.mesh.proofs.laying.fill.Statement.{statement}
 use Rattle.mesh.proofs.laying.fill.Tie as tie
 

@@ -1,4 +1,4 @@
--- `error_at` meets its contract: four column sums and the sum over them, from what the calls ensure. Assumes nothing.
+-- `placement::error::error_at` meets its contract: four column sums and the sum over them, from what the calls ensure. Assumes nothing.
 use Rattle.placement.specs.Errors.{errorAt}
 use Rattle.placement.proofs.error.error_at.Statement.{statement}
 use Rattle.placement.proofs.error.error_at.Tie as tie

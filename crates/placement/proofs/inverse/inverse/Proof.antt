@@ -1,4 +1,4 @@
--- `inverse` meets its contract: none where the determinant is zero, and else the three rows that the calls ensure. Assumes nothing.
+-- `placement::inverse::inverse` meets its contract: none where the determinant is zero, and else the three rows that the calls ensure. Assumes nothing.
 use Rattle.placement.specs.Inverses.{inverse}
 use Rattle.placement.proofs.inverse.inverse.Statement.{statement}
 use Rattle.placement.proofs.inverse.inverse.Tie as tie

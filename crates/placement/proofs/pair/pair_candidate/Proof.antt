@@ -1,4 +1,4 @@
--- `pair_candidate` meets its contract: a test that fails makes the pair ineligible, and after all of them the place comes with its own error.
+-- `placement::pair::pair_candidate` meets its contract: a test that fails makes the pair ineligible, and after all of them the place comes with its own error.
 -- Assumes nothing.
 use mathlib.Core.Path.{_≡_}
 use mathlib.Core.Bool.{Bool, cond}

@@ -1,4 +1,4 @@
--- `pair_choice` meets its contract, from what `choose` ensures of the pair's quadric. Assumes nothing.
+-- `placement::pair::pair_choice` meets its contract, from what `choose` ensures of the pair's quadric. Assumes nothing.
 use Rattle.placement.specs.Pairs.{pairChoice}
 use Rattle.placement.proofs.pair.pair_choice.Statement.{statement}
 use Rattle.placement.proofs.pair.pair_choice.Tie as tie

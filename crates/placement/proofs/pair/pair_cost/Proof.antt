@@ -1,4 +1,4 @@
--- `pair_cost` meets its contract: the error that comes with that place. Assumes nothing.
+-- `placement::pair::pair_cost` meets its contract: the error that comes with that place. Assumes nothing.
 use Rattle.placement.specs.Pairs.{pairChoice, pairPlace, pairCost}
 use Rattle.placement.proofs.pair.pair_cost.Statement.{statement}
 use Rattle.placement.proofs.pair.pair_cost.Tie as tie

@@ -1,4 +1,4 @@
--- `pair_eligible` meets its contract, in each case of the candidate. Assumes nothing.
+-- `placement::pair::pair_eligible` meets its contract, in each case of the candidate. Assumes nothing.
 use borrow.Author.Needs.{needs}
 use Rattle.placement.proofs.PlacementLaws.{eligible-is}
 use Rattle.placement.proofs.pair.pair_eligible.Statement.{statement}

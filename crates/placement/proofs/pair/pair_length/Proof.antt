@@ -1,4 +1,4 @@
--- `pair_length` meets its contract, from what `difference` and `norm` ensure. Assumes nothing.
+-- `placement::pair::pair_length` meets its contract, from what `difference` and `norm` ensure. Assumes nothing.
 use Rattle.placement.specs.Pairs.{pairLength}
 use Rattle.placement.proofs.pair.pair_length.Statement.{statement}
 use Rattle.placement.proofs.pair.pair_length.Tie as tie

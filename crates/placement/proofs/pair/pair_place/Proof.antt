@@ -1,4 +1,4 @@
--- `pair_place` meets its contract: the place that is chosen at the pair's own length. Assumes nothing.
+-- `placement::pair::pair_place` meets its contract: the place that is chosen at the pair's own length. Assumes nothing.
 use Rattle.placement.specs.Pairs.{pairChoice, pairPlace}
 use Rattle.placement.proofs.pair.pair_place.Statement.{statement}
 use Rattle.placement.proofs.pair.pair_place.Tie as tie

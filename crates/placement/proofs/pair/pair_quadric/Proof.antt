@@ -1,4 +1,4 @@
--- `pair_quadric` meets its contract, from what `sum` ensures. Assumes nothing.
+-- `placement::pair::pair_quadric` meets its contract, from what `sum` ensures. Assumes nothing.
 use Rattle.placement.specs.Pairs.{pairQuadric}
 use Rattle.placement.proofs.pair.pair_quadric.Statement.{statement}
 use Rattle.placement.proofs.pair.pair_quadric.Tie as tie

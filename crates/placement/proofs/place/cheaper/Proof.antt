@@ -1,4 +1,4 @@
--- `cheaper` meets its contract: the signed test on the two keys is the definition's. Assumes nothing.
+-- `placement::place::cheaper` meets its contract: the signed test on the two keys is the definition's. Assumes nothing.
 use mathlib.Core.Path.{_≡_}
 use mathlib.Core.Bool.{Bool, cond}
 use lib.Signed.{ltZ}

@@ -1,4 +1,4 @@
--- `choose` meets its contract, in each case of the tested placement. Assumes nothing.
+-- `placement::place::choose` meets its contract, in each case of the tested placement. Assumes nothing.
 use borrow.Author.Needs.{needs}
 use Rattle.placement.specs.Places.{placeOf}
 use Rattle.placement.proofs.place.choose.Statement.{statement}

@@ -1,4 +1,4 @@
--- `fallback` meets its contract: the cheaper of two, twice, each with its own error. Assumes nothing.
+-- `placement::place::fallback` meets its contract: the cheaper of two, twice, each with its own error. Assumes nothing.
 use Rattle.placement.specs.Places.{fallback}
 use Rattle.placement.proofs.PlacementLaws.{cheaper-with-error}
 use Rattle.placement.proofs.place.fallback.Statement.{statement}

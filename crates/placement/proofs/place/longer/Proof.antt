@@ -1,4 +1,4 @@
--- `longer` meets its contract: the definition tests the length as the code does. Assumes nothing.
+-- `placement::place::longer` meets its contract: the definition tests the length as the code does. Assumes nothing.
 use Rattle.placement.proofs.place.longer.Statement.{statement}
 use Rattle.placement.proofs.place.longer.Tie as tie
 

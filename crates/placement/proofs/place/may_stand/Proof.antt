@@ -1,4 +1,4 @@
--- `may_stand` meets its contract: the tests of the parts first, and the distance only after them. Assumes nothing.
+-- `placement::place::may_stand` meets its contract: the tests of the parts first, and the distance only after them. Assumes nothing.
 use Rattle.placement.specs.Places.{stands}
 use Rattle.placement.proofs.place.may_stand.Statement.{statement}
 use Rattle.placement.proofs.place.may_stand.Tie as tie

@@ -1,4 +1,4 @@
--- `solve` meets its contract: each row of the inverse times the column, from what the calls ensure. Assumes nothing.
+-- `placement::place::solve` meets its contract: each row of the inverse times the column, from what the calls ensure. Assumes nothing.
 use Rattle.placement.specs.Places.{solved}
 use Rattle.placement.proofs.place.solve.Statement.{statement}
 use Rattle.placement.proofs.place.solve.Tie as tie

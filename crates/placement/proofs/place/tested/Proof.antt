@@ -1,4 +1,4 @@
--- `tested` meets its contract, in each case of the placement. Assumes nothing.
+-- `placement::place::tested` meets its contract, in each case of the placement. Assumes nothing.
 use borrow.Author.Needs.{needs}
 use Rattle.placement.specs.Places.{tested}
 use Rattle.placement.proofs.place.tested.Statement.{statement}

@@ -1,4 +1,4 @@
--- `with_error` meets its contract, from what `error_at` ensures. Assumes nothing.
+-- `placement::place::with_error` meets its contract, from what `error_at` ensures. Assumes nothing.
 use Rattle.placement.proofs.place.with_error.Statement.{statement}
 use Rattle.placement.proofs.place.with_error.Tie as tie
 

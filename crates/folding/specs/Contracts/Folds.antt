@@ -1,0 +1,33 @@
+-- What a fold leaves in the memory.
+use Prim.Native.Nat.{ℕ, _+_, _*_}
+use mathlib.Core.Path.{_≡_}
+use mathlib.Core.List.{List}
+use lib.ListN.{length, drop}
+use lib.Ieee.{Float}
+use Rattle.placement.specs.declared.Limit.{Limit}
+use Rattle.walk.specs.Faces.{shared}
+use Rattle.walk.specs.Fold.{foldedFaces, foldedMesh}
+use Rattle.walk.specs.Pairs.{pairOf}
+use Rattle.memory.specs.Memory.{liveFaces}
+use Rattle.lists.specs.Frames.{But}
+use Rattle.mesh.specs.Contracts.Chains.{Tidy}
+use Rattle.memory.specs.Points.{meshOf}
+use Rattle.meaning.specs.Arithmetic.{rulesOf}
+
+-- the faces after the fold: those that hold both are gone, remove's number is keep's in the rest, and each is listed at its points again
+pub record FacesFolded (v f : ℕ) (w : List ℕ) (keep remove : ℕ) (w' : List ℕ) (gone : ℕ) : Type 0 where
+  pub but : But 0 (7 * f + v) w w'
+  pub tidy : Tidy v f w'
+  pub same-faces : liveFaces f w' ≡ foldedFaces (liveFaces f w) (pairOf keep remove)
+  pub counted : gone ≡ shared (liveFaces f w) keep remove
+
+-- the whole fold: the mesh in memory is the folded mesh
+pub record MeshFolded (v f : ℕ) (limit : Limit) (bound : Float) (w : List ℕ) (p q : List Float) (keep remove : ℕ) (w' : List ℕ) (p' q' : List Float) (gone : ℕ) : Type 0 where
+  pub but : But 0 (7 * f + v) w w'
+  pub tidy : Tidy v f w'
+  pub same-mesh : meshOf v f w' p' q' ≡ foldedMesh (rulesOf limit bound) (meshOf v f w p q) (pairOf keep remove)
+  pub counted : gone ≡ shared (liveFaces f w) keep remove
+  pub same-length-p : length p' ≡ length p
+  pub same-length-q : length q' ≡ length q
+  pub rest-p : drop (3 * v) p' ≡ drop (3 * v) p
+  pub rest-q : drop (10 * v) q' ≡ drop (10 * v) q

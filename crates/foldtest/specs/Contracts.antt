@@ -1,0 +1,3 @@
+-- What the functions of the fold test ask and answer.
+pub mod Fair
+pub mod Allowed

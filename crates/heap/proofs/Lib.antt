@@ -1,3 +1,0 @@
-pub mod HeapLaws
-pub mod SwapLaws
-pub mod PopLaws

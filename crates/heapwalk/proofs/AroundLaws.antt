@@ -1,0 +1,125 @@
+-- The points around x: those of them that are eligible with it are the pairs that are to be opened.
+-- Assumes nothing.
+use Prim.Native.Nat.{ℕ, _+_, _*_, _≤_, _<_}
+use native.Mathlib.Omega.{arith}
+use mathlib.Core.Path.{_≡_, refl, sym, ap, ap₂, _∙_}
+use mathlib.Core.List.{List}
+use mathlib.Core.Bool.{Bool, true, false, _&&_, cond}
+use lib.Dec.{ltb}
+use lib.Ieee.{Float}
+use lib.ListN.{length, getD}
+use borrow.Author.Tests.{lt-ltb}
+use Rattle.placement.specs.declared.Limit.{Limit}
+use Rattle.walk.specs.declared.Pair.{Pair}
+use Rattle.lists.specs.Lists.{sum, those, every, below}
+use Rattle.walk.specs.Points.{Rules, Mesh}
+use Rattle.walk.specs.Pairs.{pairOf, eligiblePair}
+use Rattle.lists.proofs.TestLaws.{by-test}
+use Rattle.lists.proofs.SumLaws.{sum-map, sum-those, sum-length}
+use Rattle.walk.proofs.OpenSums.{opened-sum}
+use Rattle.memory.specs.Memory.{liveFaces, aroundIn}
+use Rattle.lists.proofs.FrameLaws.{but-then, but-widen}
+use Rattle.lists.proofs.BelowSums.{sum-none, count-most, every-counted, sum-same-below}
+use Rattle.memory.specs.Points.{meshOf}
+use Rattle.meaning.specs.Arithmetic.{rulesOf}
+use Rattle.lists.proofs.EachLaws.{length-each}
+use Rattle.openpairs.proofs.MeshLaws.{mesh-points}
+use Rattle.ring.specs.Contracts.Listing.{isAround, Listed}
+use Rattle.openpairs.specs.Contracts.Edges.{risingFrom, openedAround}
+use Rattle.openpairs.specs.Contracts.Waiting.{fits}
+use Rattle.openpairs.proofs.AddLaws.{fits-mesh}
+use Rattle.queue.specs.State.{openIn}
+use Rattle.heapwalk.specs.Contracts.Entering.{Open, Entered}
+use Rattle.heapwalk.specs.Contracts.Listing.{pairsWith, Enterable, EnteredBeside}
+use Rattle.heapwalk.proofs.QueueFrames.{floats-refl, fits-stays, open-lists, held-lists}
+
+-- what is opened around x, as a sum over the points
+around-sum : {D : Type 0} (rules : Rules D) (m : Mesh D) (rising : Bool) (x : ℕ) (g : Pair → ℕ) →
+    sum g (openedAround rules m rising x)
+    ≡ sum (λ y. cond (isAround rising (m .faces) x y && eligiblePair rules m (pairOf x y)) (g (pairOf x y)) 0) (below (length (m .points)))
+unfolding risingFrom
+around-sum rules m true x g = sum-map g (pairOf x) _ ∙ sum-those (λ y. g (pairOf x y)) _ (below (length (m .points)))
+around-sum rules m false x g = opened-sum rules m g x
+
+-- one test after another is both
+cond-both : (a b : Bool) (n : ℕ) → cond a (cond b n 0) 0 ≡ cond (a && b) n 0
+cond-both true b n = refl
+cond-both false b n = refl
+
+module _ {v f : ℕ} {w w₁ : List ℕ} {p q : List Float} {n : ℕ} {rising : Bool} {x count : ℕ} {bound : Float}
+    (held : Open v f w p q n bound) (x-in : x < v) (around : Listed v f w rising x w₁ count) where
+  -- they are at most v, and each is below v
+  pub around-few : count ≤ v
+  around-few =
+      let test = isAround rising (liveFaces f w) x in
+      omega (
+        arith,
+        length-each (λ i. getD w₁ (15 * f + 4 * v + i) 0) count,
+        sum-length (aroundIn v f w₁ count),
+        around .sums (λ y. 1),
+        sum-those (λ y. 1) test (below v),
+        count-most test v,
+      )
+
+  around-points : every (λ y. ltb y v) (aroundIn v f w₁ count) ≡ true
+  around-points =
+      let test = isAround rising (liveFaces f w) x in
+      every-counted (λ y. ltb y v) (aroundIn v f w₁ count)
+      (around .sums (λ y. cond (ltb y v) 0 1)
+      ∙ sum-those (λ y. cond (ltb y v) 0 1) test (below v)
+      ∙ sum-none _ v (λ y l. rw (lt-ltb y v l) (by-test (test y) (λ e. rw e) (λ e. rw e))))
+
+  -- those of them that are eligible are the pairs that are to be opened
+  pub around-opened : (limit : Limit) (g : Pair → ℕ) →
+      sum g (pairsWith v f w₁ p q limit bound x (aroundIn v f w₁ count)) ≡ sum g (openedAround (rulesOf limit bound) (meshOf v f w p q) rising x)
+  unfolding meshOf
+  around-opened limit g =
+      let rules = rulesOf limit bound in
+      let m = meshOf v f w p q in
+      let test = isAround rising (liveFaces f w) x in
+      let weight : ℕ → ℕ = λ y. cond (fits v f w₁ p q limit bound x y) (g (pairOf x y)) 0 in
+      let same = fits-stays v f (around .but) (omega arith) (floats-refl (3 * v) 0 p) (floats-refl (10 * v) 0 q) limit bound x in
+      let fitting : (y : ℕ) → y < v → fits v f w₁ p q limit bound x y ≡ eligiblePair rules m (pairOf x y) =
+      λ y l. same y x-in l ∙ fits-mesh v f w p q limit bound x y x-in l in
+      sum-map g (pairOf x) (those (fits v f w₁ p q limit bound x) (aroundIn v f w₁ count))
+      ∙ sum-those (λ y. g (pairOf x y)) (fits v f w₁ p q limit bound x) (aroundIn v f w₁ count)
+      ∙ around .sums weight
+      ∙ sum-those weight test (below v)
+      ∙ sum-same-below _ (λ y. cond (test y && eligiblePair rules m (pairOf x y)) (g (pairOf x y)) 0) v
+      (λ y l. cond-both (test y) _ (g (pairOf x y)) ∙ ap (λ (b : Bool). cond (test y && b) (g (pairOf x y)) 0) (fitting y l))
+      ∙ ap (λ (k : ℕ). sum (λ y. cond (test y && eligiblePair rules m (pairOf x y)) (g (pairOf x y)) 0) (below k)) (sym (mesh-points v f w p q))
+      ∙ sym (around-sum rules m rising x g)
+
+  pub around-ready : (limit : Limit) → length (openIn v f w n) + length (openedAround (rulesOf limit bound) (meshOf v f w p q) rising x) ≤ 3 * f →
+      Enterable v f w₁ p q n limit bound x (aroundIn v f w₁ count)
+  around-ready limit enough = record {
+    «open» = held-lists (around .but) (omega arith) (omega arith) held;
+    point = x-in;
+    points = around-points;
+    enough = omega (
+      arith,
+      enough,
+      ap length (open-lists (around .but) (omega arith) (omega arith) held),
+      around-opened limit (λ r. 1),
+      sum-length (pairsWith v f w₁ p q limit bound x (aroundIn v f w₁ count)),
+      sum-length (openedAround (rulesOf limit bound) (meshOf v f w p q) rising x),
+    );
+  }
+
+  pub around-entered : (limit : Limit) {w' : List ℕ} {p' q' : List Float} {n' : ℕ} →
+      EnteredBeside v f w₁ p q n bound (pairsWith v f w₁ p q limit bound x (aroundIn v f w₁ count)) w' p' q' n' →
+      Entered v f w p q n bound (openedAround (rulesOf limit bound) (meshOf v f w p q) rising x) w' p' q' n'
+  around-entered limit done =
+      let put = done .entered .enqueued in
+      record {
+        enqueued = record {
+          but = but-then (but-widen (omega arith) (omega arith) (around .but)) (put .but);
+          points-but = put .points-but;
+          quadrics-but = put .quadrics-but;
+          queue = put .queue;
+          sums = λ g.
+              put .sums g
+              ∙ ap₂ _+_ (ap (λ (ps : List Pair). sum g ps) (open-lists (around .but) (omega arith) (omega arith) held)) (around-opened limit g);
+        };
+        «open» = done .entered .«open»;
+      }

@@ -1,0 +1,240 @@
+-- Entries put in one after another: the eligible pairs of x with the points of a list.
+-- Assumes nothing.
+use Prim.Native.Nat.{ℕ, _+_, _*_, _≤_, _<_}
+use native.Mathlib.Numerals.{add-one}
+use native.Mathlib.Omega.{arith}
+use mathlib.Core.Path.{_≡_, refl, sym, ap, _∙_}
+use mathlib.Core.List.{List, [], _∷_, _++_, map, map-append}
+use mathlib.Core.Bool.{Bool, true, false, cond}
+use lib.Dec.{ltb}
+use lib.Ieee.{Float}
+use lib.ListN.{length, getD, length-map, length-append}
+use borrow.Author.Tests.{ltb-true, lt-ltb}
+use Rattle.geometry.specs.declared.Point.{Point}
+use Rattle.placement.specs.declared.Limit.{Limit}
+use Rattle.placement.specs.declared.pair.Vertex.{Vertex}
+use Rattle.placement.specs.declared.pair.Candidate.the-variants.{Eligible, Ineligible}
+use Rattle.placement.specs.Pairs.{pairCost, pairPlace, eligible, pairCandidate}
+use Rattle.walk.specs.declared.Pair.{Pair}
+use Rattle.lists.specs.Lists.{sum, those, every, below}
+use Rattle.walk.specs.Pairs.{pairOf}
+use Rattle.lists.proofs.TestLaws.{by-test}
+use Rattle.lists.proofs.ListLaws.{every-head, every-cons, length-those}
+use Rattle.lists.proofs.SumLaws.{sum-append, sum-map, sum-length, every-at}
+use Rattle.lists.proofs.FrameLaws.{but-refl, but-then}
+use Rattle.mesh.proofs.TidyLaws.{tidy-but}
+use Rattle.lists.proofs.EachLaws.{length-each, getD-each}
+use Rattle.lists.proofs.AppendLaws.{those-append}
+use Rattle.memory.specs.Memory.{aroundIn}
+use Rattle.openpairs.specs.Contracts.Waiting.{fits}
+use Rattle.openpairs.proofs.WaitLaws.{sum-partial}
+use Rattle.queue.specs.State.{openIn}
+use Rattle.queue.specs.Contracts.Queued.{Kept}
+use Rattle.queue.specs.Contracts.Changes.{Pushed}
+use Rattle.heapwalk.specs.Contracts.Entering.{Open, Entered}
+use Rattle.heapwalk.specs.Contracts.Listing.{pairsWith, Enterable, EnteredBeside}
+use Rattle.heapwalk.proofs.QueueFrames.{floats-refl, floats-then, fits-stays}
+
+-- ---- a pair's candidate
+
+-- it is one where the pair is eligible, with the pair's cost and place
+pub candidate-eligible : (limit : Limit) (bound : Float) (keep remove : Vertex) (cost : Float) (place : Point) →
+    Eligible cost place ≡ pairCandidate limit bound keep remove →
+    (eligible limit bound keep remove ≡ true) × (cost ≡ pairCost bound keep remove) × (place ≡ pairPlace bound keep remove)
+unfolding pairCandidate
+candidate-eligible limit bound keep remove cost place is =
+    by-test (eligible limit bound keep remove)
+    (λ e. let same = rw e at is in (e, (cc), (cc)))
+    (λ e. let other = rw e at is in let no : _≡_ {A = ℕ} 0 1 = cc in absurd (omega arith))
+
+pub candidate-none : (limit : Limit) (bound : Float) (keep remove : Vertex) → Ineligible ≡ pairCandidate limit bound keep remove →
+    eligible limit bound keep remove ≡ false
+unfolding pairCandidate
+candidate-none limit bound keep remove is =
+    by-test (eligible limit bound keep remove)
+    (λ e. let other = rw e at is in let no : _≡_ {A = ℕ} 0 1 = cc in absurd (omega arith))
+    (λ e. e)
+
+-- ---- one change after another
+
+pub entered-none : {v f : ℕ} {w : List ℕ} {p q : List Float} {n : ℕ} {bound : Float} → Open v f w p q n bound → Entered v f w p q n bound [] w p q n
+unfolding sum
+entered-none {w = w} {p = p} {q = q} held = record {
+  enqueued = record {
+    but = but-refl _ _ w;
+    points-but = floats-refl _ _ p;
+    quadrics-but = floats-refl _ _ q;
+    queue = held .queue;
+    sums = λ g. omega arith;
+  };
+  «open» = held;
+}
+
+pub entered-then : {v f : ℕ} {w w' w'' : List ℕ} {p p' p'' q q' q'' : List Float} {n n' n'' : ℕ} {bound : Float} {more more' : List Pair} →
+    Entered v f w p q n bound more w' p' q' n' → Entered v f w' p' q' n' bound more' w'' p'' q'' n'' →
+    Entered v f w p q n bound (more ++ more') w'' p'' q'' n''
+entered-then {more = more} {more' = more'} one two =
+    let first = one .enqueued in
+    let second = two .enqueued in
+    record {
+      enqueued = record {
+        but = but-then (first .but) (second .but);
+        points-but = floats-then (first .points-but) (second .points-but);
+        quadrics-but = floats-then (first .quadrics-but) (second .quadrics-but);
+        queue = second .queue;
+        sums = λ g. omega (arith, first .sums g, second .sums g, sum-append g more more');
+      };
+      «open» = two .«open»;
+    }
+
+-- the pairs may be listed in another order
+pub entered-as : {v f : ℕ} {w w' : List ℕ} {p p' q q' : List Float} {n n' : ℕ} {bound : Float} {more more' : List Pair} →
+    ((g : Pair → ℕ) → sum g more ≡ sum g more') → Entered v f w p q n bound more w' p' q' n' → Entered v f w p q n bound more' w' p' q' n'
+entered-as {v} {f} {w} {n = n} same one =
+    let done = one .enqueued in
+    record {
+      enqueued = record {
+        but = done .but;
+        points-but = done .points-but;
+        quadrics-but = done .quadrics-but;
+        queue = done .queue;
+        sums = λ g. done .sums g ∙ ap (λ (k : ℕ). sum g (openIn v f w n) + k) (same g);
+      };
+      «open» = one .«open»;
+    }
+
+-- how many are open
+pub entered-length : {v f : ℕ} {w w' : List ℕ} {p p' q q' : List Float} {n n' : ℕ} {bound : Float} {more : List Pair} →
+    Entered v f w p q n bound more w' p' q' n' → length (openIn v f w' n') ≡ length (openIn v f w n) + length more
+entered-length {v} {f} {w} {w'} {n = n} {n' = n'} {more = more} one =
+    omega (arith, one .enqueued .sums (λ r. 1), sum-length (openIn v f w' n'), sum-length (openIn v f w n), sum-length more)
+
+-- ---- eligible pairs of x with the points of a list
+
+module _ (v f : ℕ) (w : List ℕ) (p q : List Float) (limit : Limit) (bound : Float) (x : ℕ) where
+  -- with one point
+  pub with-one : (y : ℕ) (b : Bool) → fits v f w p q limit bound x y ≡ b → pairsWith v f w p q limit bound x (y ∷ []) ≡ cond b (pairOf x y ∷ []) []
+  unfolding those
+  with-one y true e = rw e
+  with-one y false e = rw e
+
+  -- with the listed points, one more, and how many they are
+  with-next : (i : ℕ) → pairsWith v f w p q limit bound x (aroundIn v f w (i + 1))
+      ≡ pairsWith v f w p q limit bound x (aroundIn v f w i) ++ pairsWith v f w p q limit bound x (getD w (15 * f + 4 * v + i) 0 ∷ [])
+  unfolding below
+  with-next i =
+      let at : ℕ → ℕ = λ i. getD w (15 * f + 4 * v + i) 0 in
+      let test = fits v f w p q limit bound x in
+      rw add-one
+      (ap (λ (ys : List ℕ). map (pairOf x) (those test ys)) (map-append at (below i) (i ∷ []))
+      ∙ ap (map (pairOf x)) (those-append test (map at (below i)) (at i ∷ []))
+      ∙ map-append (pairOf x) (those test (map at (below i))) (those test (at i ∷ [])))
+
+  with-length : (n : ℕ) → length (pairsWith v f w p q limit bound x (aroundIn v f w n))
+      ≡ sum (λ i. cond (fits v f w p q limit bound x (getD w (15 * f + 4 * v + i) 0)) 1 0) (below n)
+  with-length n =
+      let at : ℕ → ℕ = λ i. getD w (15 * f + 4 * v + i) 0 in
+      let test = fits v f w p q limit bound x in
+      length-map (those test (map at (below n))) (pairOf x)
+      ∙ length-those test (map at (below n))
+      ∙ sum-map (λ y. cond (test y) 1 0) at (below n)
+
+  -- with the first i + 1 there are no more than with all
+  with-fewer : (i n : ℕ) → i < n →
+      length (pairsWith v f w p q limit bound x (aroundIn v f w (i + 1))) ≤ length (pairsWith v f w p q limit bound x (aroundIn v f w n))
+  with-fewer i n l = rw (with-length (i + 1), with-length n) (sum-partial _ (i + 1) n (omega arith))
+
+-- none fails in no list
+every-none : {A : Type 0} (test : A → Bool) → every test [] ≡ true
+unfolding every
+every-none test = refl
+
+-- ---- one pair
+
+module _ {v f : ℕ} {w : List ℕ} {p q : List Float} {n : ℕ} {limit : Limit} {bound : Float} {x y : ℕ}
+    (ready : Enterable v f w p q n limit bound x (y ∷ [])) where
+  pub one-point : y < v
+  one-point = ltb-true y v (every-head (λ y. ltb y v) y [] (ready .points))
+
+  pub one-place : fits v f w p q limit bound x y ≡ true → length (openIn v f w n) < 3 * f
+  one-place e =
+      let enough = ready .enough in
+      omega (arith, rw (with-one v f w p q limit bound x y true e) at enough)
+
+  pub entered-one : {w' : List ℕ} {p' q' : List Float} {n' : ℕ} → fits v f w p q limit bound x y ≡ true → Pushed v f w p q n x y w' p' q' n' →
+      Kept v f w' p' q' n' bound → EnteredBeside v f w p q n bound (pairsWith v f w p q limit bound x (y ∷ [])) w' p' q' n'
+  entered-one e pushed kept =
+      let done = pushed .enqueued in
+      let held = ready .«open» in
+      record {
+        entered = rw (with-one v f w p q limit bound x y true e) (record {
+          enqueued = done;
+          «open» = record {
+            tidy = tidy-but (omega arith) (done .but) (held .tidy);
+            places-long = omega (arith, held .places-long, done .points-but .same-length);
+            queue = done .queue;
+            kept = kept;
+          };
+        });
+        lists-same = pushed .lists-same;
+      }
+
+  pub entered-not : fits v f w p q limit bound x y ≡ false → EnteredBeside v f w p q n bound (pairsWith v f w p q limit bound x (y ∷ [])) w p q n
+  entered-not e = record { entered = rw (with-one v f w p q limit bound x y false e) (entered-none (ready .«open»)); lists-same = λ i l m. refl }
+
+-- ---- the listed points, one after another
+
+module _ {v f : ℕ} {w₀ : List ℕ} {p₀ q₀ : List Float} {n₀ : ℕ} {limit : Limit} {bound : Float} {x count : ℕ}
+    (ready : Enterable v f w₀ p₀ q₀ n₀ limit bound x (aroundIn v f w₀ count)) (few : count ≤ v) where
+  pub listed-none : EnteredBeside v f w₀ p₀ q₀ n₀ bound (pairsWith v f w₀ p₀ q₀ limit bound x (aroundIn v f w₀ 0)) w₀ p₀ q₀ n₀
+  unfolding below those
+  listed-none = record { entered = entered-none (ready .«open»); lists-same = λ i l m. refl }
+
+  module _ {w : List ℕ} {p q : List Float} {n i : ℕ}
+      (so-far : EnteredBeside v f w₀ p₀ q₀ n₀ bound (pairsWith v f w₀ p₀ q₀ limit bound x (aroundIn v f w₀ i)) w p q n) (inside : i < count) where
+    -- the point is the one that was listed
+    turn-point : getD w (15 * f + 4 * v + i) 0 ≡ getD w₀ (15 * f + 4 * v + i) 0
+    turn-point = so-far .lists-same (15 * f + 4 * v + i) (omega arith) (omega arith)
+
+    turn-below : getD w₀ (15 * f + 4 * v + i) 0 < v
+    turn-below =
+        let at : ℕ → ℕ = λ i. getD w₀ (15 * f + 4 * v + i) 0 in
+        ltb-true (at i) v
+        (ap (λ (y : ℕ). ltb y v) (sym (getD-each at count i 0 inside))
+        ∙ every-at (λ y. ltb y v) 0 (aroundIn v f w₀ count) (ready .points) i (rw length-each inside))
+
+    -- it is eligible with x where it was
+    turn-same : (y : ℕ) → y < v → pairsWith v f w p q limit bound x (y ∷ []) ≡ pairsWith v f w₀ p₀ q₀ limit bound x (y ∷ [])
+    turn-same y l =
+        let done = so-far .entered .enqueued in
+        let fitting = fits-stays v f (done .but) (omega arith) (done .points-but) (done .quadrics-but) limit bound x y (ready .point) l in
+        with-one v f w p q limit bound x y _ fitting ∙ sym (with-one v f w₀ p₀ q₀ limit bound x y _ refl)
+
+    module _ {y : ℕ} (read : y ≡ getD w (15 * f + 4 * v + i) 0) where
+      turn-with : pairsWith v f w p q limit bound x (y ∷ []) ≡ pairsWith v f w₀ p₀ q₀ limit bound x (getD w₀ (15 * f + 4 * v + i) 0 ∷ [])
+      turn-with =
+          ap (λ (y : ℕ). pairsWith v f w p q limit bound x (y ∷ [])) (read ∙ turn-point) ∙ turn-same (getD w₀ (15 * f + 4 * v + i) 0) turn-below
+
+      pub turn-ready : Enterable v f w p q n limit bound x (y ∷ [])
+      turn-ready = record {
+        «open» = so-far .entered .«open»;
+        point = ready .point;
+        points = every-cons (λ y. ltb y v) y [] (lt-ltb y v (omega (arith, read, turn-point, turn-below))) (every-none (λ y. ltb y v));
+        enough = omega (
+          arith,
+          ready .enough,
+          entered-length (so-far .entered),
+          ap length turn-with,
+          with-fewer v f w₀ p₀ q₀ limit bound x i count inside,
+          ap length (with-next v f w₀ p₀ q₀ limit bound x i)
+              ∙ length-append (pairsWith v f w₀ p₀ q₀ limit bound x (aroundIn v f w₀ i)) _,
+        );
+      }
+
+      pub turn-done : {w' : List ℕ} {p' q' : List Float} {n' : ℕ} →
+          EnteredBeside v f w p q n bound (pairsWith v f w p q limit bound x (y ∷ [])) w' p' q' n' →
+          EnteredBeside v f w₀ p₀ q₀ n₀ bound (pairsWith v f w₀ p₀ q₀ limit bound x (aroundIn v f w₀ (i + 1))) w' p' q' n'
+      turn-done turn = record {
+        entered = rw (with-next v f w₀ p₀ q₀ limit bound x i) (entered-then (so-far .entered) (rw turn-with at (turn .entered)));
+        lists-same = λ j l m. turn .lists-same j l m ∙ so-far .lists-same j l m;
+      }

@@ -1,0 +1,36 @@
+-- Pairs are opened into the queue: what that asks, and what it leaves.
+use Prim.Native.Nat.{ℕ, _+_, _*_, _≤_, _<_}
+use mathlib.Core.Path.{_≡_}
+use mathlib.Core.List.{List}
+use lib.ListN.{length}
+use lib.Ieee.{Float}
+use Rattle.walk.specs.declared.Pair.{Pair}
+use Rattle.lists.specs.Lists.{sum}
+use Rattle.lists.specs.Frames.{But, FloatsBut}
+use Rattle.mesh.specs.Contracts.Chains.{Tidy}
+use Rattle.memory.specs.Entries.{stamp}
+use Rattle.queue.specs.State.{openIn}
+use Rattle.queue.specs.Contracts.Queued.{Queue, Kept}
+use Rattle.queue.specs.Contracts.Changes.{Enqueued}
+
+-- the memory holds a mesh and a queue of n entries
+pub record Open (v f : ℕ) (w : List ℕ) (p q : List Float) (n : ℕ) (bound : Float) : Type 0 where
+  pub tidy : Tidy v f w
+  pub places-long : 3 * v + 9 * f ≤ length p
+  pub queue : Queue v f w q n
+  pub kept : Kept v f w p q n bound
+
+-- entries for a list of pairs are put in, and the memory holds a mesh and a queue as before
+pub record Entered (v f : ℕ) (w : List ℕ) (p q : List Float) (n : ℕ) (bound : Float) (more : List Pair) (w' : List ℕ) (p' q' : List Float) (n' : ℕ) :
+    Type 0 where
+  pub enqueued : Enqueued v f w p q n more w' p' q' n'
+  pub «open» : Open v f w' p' q' n' bound
+
+-- the queue at the start: it holds an entry for each pair of a list, and no stamp has grown
+pub record Started (v f : ℕ) (w : List ℕ) (p q : List Float) (bound : Float) (more : List Pair) (w' : List ℕ) (p' q' : List Float) (n' : ℕ) : Type 0 where
+  pub but : But (7 * f + 3 * v) (24 * f + 5 * v) w w'
+  pub points-but : FloatsBut (3 * v) (3 * v + 9 * f) p p'
+  pub quadrics-but : FloatsBut (10 * v) (10 * v + 3 * f) q q'
+  pub «open» : Open v f w' p' q' n' bound
+  pub stamps : (x : ℕ) → x < v → stamp v f w' x ≡ 0
+  pub sums : (g : Pair → ℕ) → sum g (openIn v f w' n') ≡ sum g more

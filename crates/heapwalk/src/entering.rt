@@ -1,0 +1,111 @@
+// Pairs are opened into the queue: at the start, and after a fold. Each eligible pair gets an entry with its cost and its place.
+ghost use Prim.Native.Nat.{_+_, _*_, _≤_, _<_};
+ghost use mathlib.Core.List.{[], _∷_};
+ghost use lib.ListN.{length};
+ghost use Rattle.walk.specs.Walk.{started};
+ghost use Rattle.mesh.specs.Contracts.Chains.{Tidy};
+ghost use Rattle.memory.specs.Points.{meshOf};
+ghost use Rattle.meaning.specs.Arithmetic.{rulesOf};
+ghost use Rattle.openpairs.specs.Contracts.Edges.{openedAround};
+ghost use Rattle.queue.specs.State.{openIn};
+ghost use Rattle.memory.specs.Memory.{aroundIn};
+ghost use Rattle.heapwalk.specs.Contracts.Entering.{Open, Entered, Started};
+ghost use Rattle.heapwalk.specs.Contracts.Listing.{pairsWith, Enterable, EnteredBeside};
+use memory::vertex_at;
+use placement::Limit;
+use placement::pair::Candidate;
+use placement::pair::pair_candidate;
+
+// Opens x with y where the pair is eligible. Says how many entries there are.
+fn enter_pair(
+    w: &mut [u32],
+    p: &mut [f32],
+    q: &mut [f64],
+    v: usize,
+    f: usize,
+    n: usize,
+    x: u32,
+    y: u32,
+    limit: Limit,
+    bound: f32,
+) -> usize
+    requires { ⌜ Enterable v f (now w) (now p) (now q) n limit bound x (y ∷ []) ⌝ }
+    ensures { λ r. ⌜ EnteredBeside v f (now (w .entry)) (now (p .entry)) (now (q .entry)) n bound (pairsWith v f (now (w .entry)) (now (p .entry)) (now (q .entry)) limit bound x (y ∷ [])) (now (w .exit)) (now (p .exit)) (now (q .exit)) r ⌝ }
+{
+    let stays = vertex_at(w, p, q, v, f, x as usize);
+    let goes = vertex_at(w, p, q, v, f, y as usize);
+    match pair_candidate(stays, goes, limit, bound) {
+        Candidate::Eligible(cost, place) => queue::push(w, p, q, v, f, n, x, y, cost, place),
+        Candidate::Ineligible => n,
+    }
+}
+
+// Opens x with each of the points that are listed, where the pair is eligible. Says how many entries there are.
+fn enter_listed(
+    w: &mut [u32],
+    p: &mut [f32],
+    q: &mut [f64],
+    v: usize,
+    f: usize,
+    n: usize,
+    x: u32,
+    count: usize,
+    limit: Limit,
+    bound: f32,
+) -> usize
+    requires { ⌜ Enterable v f (now w) (now p) (now q) n limit bound x (aroundIn v f (now w) count) ⌝ ∗ ⌜ count ≤ v ⌝ }
+    ensures { λ r. ⌜ EnteredBeside v f (now (w .entry)) (now (p .entry)) (now (q .entry)) n bound (pairsWith v f (now (w .entry)) (now (p .entry)) (now (q .entry)) limit bound x (aroundIn v f (now (w .entry)) count)) (now (w .exit)) (now (p .exit)) (now (q .exit)) r ⌝ }
+{
+    let mut entries = n;
+    let mut i = 0;
+    while i < count {
+        let y = w[15 * f + 4 * v + i];
+        entries = enter_pair(w, p, q, v, f, entries, x, y, limit, bound);
+        i += 1;
+    }
+    entries
+}
+
+// Opens the pairs around x: at the start along rising edges, after a fold with every neighbour. Says how many entries there are.
+pub fn enter_around(
+    w: &mut [u32],
+    p: &mut [f32],
+    q: &mut [f64],
+    v: usize,
+    f: usize,
+    n: usize,
+    rising: bool,
+    x: u32,
+    limit: Limit,
+    bound: f32,
+) -> usize
+    requires { ⌜ Open v f (now w) (now p) (now q) n bound ⌝ ∗ ⌜ x < v ⌝ }
+    requires { ⌜ length (openIn v f (now w) n) + length (openedAround (rulesOf limit bound) (meshOf v f (now w) (now p) (now q)) rising x) ≤ 3 * f ⌝ }
+    ensures { λ r. ⌜ Entered v f (now (w .entry)) (now (p .entry)) (now (q .entry)) n bound (openedAround (rulesOf limit bound) (meshOf v f (now (w .entry)) (now (p .entry)) (now (q .entry))) rising x) (now (w .exit)) (now (p .exit)) (now (q .exit)) r ⌝ }
+{
+    let count = ring::list_around(w, v, f, rising, x);
+    enter_listed(w, p, q, v, f, n, x, count, limit, bound)
+}
+
+// At the start: an empty queue, and then each pair that a face edge runs along from its lower to its higher number. Says how many entries there are.
+pub fn enter_start(
+    w: &mut [u32],
+    p: &mut [f32],
+    q: &mut [f64],
+    v: usize,
+    f: usize,
+    limit: Limit,
+    bound: f32,
+) -> usize
+    requires { ⌜ Tidy v f (now w) ⌝ ∗ ⌜ 3 * v + 9 * f ≤ length (now p) ⌝ ∗ ⌜ 10 * v + 3 * f ≤ length (now q) ⌝ }
+    ensures { λ r. ⌜ Started v f (now (w .entry)) (now (p .entry)) (now (q .entry)) bound (started (rulesOf limit bound) (meshOf v f (now (w .entry)) (now (p .entry)) (now (q .entry))) .«open») (now (w .exit)) (now (p .exit)) (now (q .exit)) r ⌝ }
+{
+    queue::empty(w, q, v, f);
+    let mut n = 0;
+    let mut x = 0;
+    while x < v {
+        n = enter_around(w, p, q, v, f, n, true, x as u32, limit, bound);
+        x += 1;
+    }
+    n
+}

@@ -1,0 +1,3 @@
+-- Small things on lists, and stretches of cells in them.
+pub mod Lists
+pub mod Frames

@@ -1,3 +1,0 @@
--- What marking, counting and clearing do, step by step.
-pub mod Marking
-pub mod Counting

@@ -1,0 +1,2 @@
+-- What follows from the statement of a call.
+pub mod Determined

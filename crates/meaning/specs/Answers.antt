@@ -1,0 +1,101 @@
+-- The answer numbers 1 to 9 of document 01, in the order they are checked, each "given exactly when".
+use Prim.Native.Nat.{ℕ, suc, _+_, _*_, _/_, _%_}
+use mathlib.Core.List.{List, [], _∷_}
+use mathlib.Core.Bool.{Bool, true, false, not, _&&_, _||_}
+use lib.Dec.{ltb, eqb}
+use lib.ListN.{length}
+use lib.IntN.{pos}
+use lib.Ieee.{Float, fin, isNan, le, eq, neg}
+use lib.Ieee.Scale.{finite}
+use Rattle.walk.specs.declared.Face.{Face}
+use Rattle.lists.specs.Lists.{some, firstOf}
+use Rattle.walk.specs.Faces.{facesOf}
+use Rattle.placement.specs.declared.Limit.{Limit}
+use Rattle.placement.specs.declared.Limit.the-variants.{Unlimited, AtMost}
+use Rattle.meaning.specs.declared.Rooms.{Rooms}
+use Rattle.meaning.specs.declared.Verdict.{Verdict}
+use Rattle.meaning.specs.declared.Verdict.the-variants.{Refused, Copied, Admitted}
+use Rattle.meaning.specs.Input.{Input, pointsIn, facesIn}
+
+-- 0.0 and 1.0
+abbrev pub zeroFloat : Float
+zeroFloat = fin false 0 (pos 0)
+
+abbrev pub oneFloat : Float
+oneFloat = fin false 1 (pos 0)
+
+-- ---- the numbers, of the lists' lengths, of V and F, or of what stands in the lists
+
+-- 1: a list's length is no multiple of 3
+abbrev pub uneven : ℕ → ℕ → Bool
+uneven points faces = not (eqb (points % 3) 0) || not (eqb (faces % 3) 0)
+
+-- 2: too many points or faces
+abbrev pub large : ℕ → ℕ → Bool
+large v f = ltb 65536 v || ltb 131072 f
+
+-- 3: an output or work buffer shorter than stated
+abbrev pub short : ℕ → ℕ → Rooms → Bool
+short v f rooms =
+    ltb (rooms .points) (3 * v)
+    || ltb (rooms .faces) (3 * f)
+    || ltb (rooms .u32s) (16 * v + 32 * f)
+    || ltb (rooms .f32s) (4 * v + 12 * f)
+    || ltb (rooms .f64s) (16 * v + 6 * f)
+
+-- 4: no points or no faces
+abbrev pub empty : ℕ → ℕ → Bool
+empty v f = eqb v 0 || eqb f 0
+
+-- 5: the ratio is NaN, below 0 or above 1
+abbrev pub badRatio : Float → Bool
+badRatio ratio = not (le zeroFloat ratio && le ratio oneFloat)
+
+-- 6: the length limit is NaN
+abbrev pub badLimit : Limit → Bool
+badLimit Unlimited = false
+badLimit (AtMost most) = isNan most
+
+-- 7: a coordinate is not finite, or its size is above the bound
+abbrev pub badCoordinate : Float → Float → Bool
+badCoordinate bound x = not (finite x && le x bound && le (neg bound) x)
+
+-- 8: a face names a point not below v
+abbrev pub outside : ℕ → Face → Bool
+outside v f = not (ltb (f .a) v && ltb (f .b) v && ltb (f .c) v)
+
+-- 9: a face names one point twice
+abbrev pub doubled : Face → Bool
+doubled f = eqb (f .a) (f .b) || eqb (f .b) (f .c) || eqb (f .c) (f .a)
+
+-- ---- the order
+
+-- the first verdict where the test holds, else the second
+abbrev pub pick : Bool → Verdict → Verdict → Verdict
+pick true a b = a
+pick false a b = b
+
+-- 8 and 9: the lowest bad face counts, and within it 8 comes first. k is the number of the first face of the list.
+unfoldable pub faceVerdict : ℕ → ℕ → List Face → Verdict
+faceVerdict v k [] = Admitted
+faceVerdict v k (f ∷ fs) = pick (outside v f) (Refused 8 k) (pick (doubled f) (Refused 9 k) (faceVerdict v (suc k) fs))
+
+-- 7 to 9, of the lists, the ratio and the bound: ratio 0.0 or -0.0 is answered after 7 and before 8, faces unchecked
+unfoldable pub contentsVerdict : List Float → List ℕ → Float → Float → Verdict
+unfolding faceVerdict some firstOf
+contentsVerdict points faces ratio bound =
+    pick (some (badCoordinate bound) points) (Refused 7 (firstOf (badCoordinate bound) points))
+    (pick (eq ratio zeroFloat) Copied
+    (faceVerdict (length points / 3) 0 (facesOf (length faces / 3) faces)))
+
+-- 1 to 9
+unfoldable pub verdictOf : Input → Verdict
+unfolding contentsVerdict
+verdictOf i =
+    pick (uneven (length (i .points)) (length (i .faces))) (Refused 1 0)
+    (pick (large (pointsIn i) (facesIn i)) (Refused 2 0)
+    (pick (short (pointsIn i) (facesIn i) (i .rooms)) (Refused 3 0)
+    (pick (empty (pointsIn i) (facesIn i)) (Refused 4 0)
+    (pick (badRatio (i .ratio)) (Refused 5 0)
+    (pick (badLimit (i .limit)) (Refused 6 0)
+    (contentsVerdict (i .points) (i .faces) (i .ratio) (i .bound)))))))

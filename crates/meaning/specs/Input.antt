@@ -1,0 +1,28 @@
+-- What a call is given (document 01, "Input and lent memory").
+use Prim.Native.Nat.{ℕ, _+_, _*_, _/_}
+use mathlib.Core.List.{List}
+use lib.ListN.{length, getD}
+use lib.Ieee.{Float, nan}
+use Rattle.geometry.specs.declared.Point.{Point}
+use Rattle.placement.specs.declared.Limit.{Limit}
+use Rattle.meaning.specs.declared.Rooms.{Rooms}
+
+-- What a caller hands over, but for the buffers' contents: the lists, the lengths of the lent buffers, the options, and the bound on a coordinate's size.
+pub record Input : Type 0 where
+  pub points : List Float
+  pub faces : List ℕ
+  pub rooms : Rooms
+  pub ratio : Float
+  pub limit : Limit
+  pub bound : Float
+
+-- V and F
+abbrev pub pointsIn : Input → ℕ
+pointsIn i = length (i .points) / 3
+
+abbrev pub facesIn : Input → ℕ
+facesIn i = length (i .faces) / 3
+
+-- the point number x of a list of coordinates, three to a point
+abbrev pub pointAt : List Float → ℕ → Point
+pointAt p x = record { x = getD p (3 * x) nan; y = getD p (3 * x + 1) nan; z = getD p (3 * x + 2) nan }

@@ -1,0 +1,67 @@
+-- Which inputs are refused, by number and place: the example square of document 01 and small changes of it, as one list with one proof by computation.
+use Prim.Native.Nat.{ℕ}
+use mathlib.Core.Path.{_≡_, refl}
+use mathlib.Core.List.{List, [], _∷_, map}
+use mathlib.Core.Bool.{true, false}
+use lib.IntN.{pos, negsuc}
+use lib.Ieee.{Float, nan, inf, fin, isNan, lt, le, eq, neg}
+use Rattle.lists.specs.Lists.{some, below, firstOf}
+use Rattle.placement.specs.declared.Limit.{Limit}
+use Rattle.placement.specs.declared.Limit.the-variants.{Unlimited, AtMost}
+use Rattle.meaning.specs.declared.Verdict.{Verdict}
+use Rattle.meaning.specs.declared.Verdict.the-variants.{Refused, Copied, Admitted}
+use Rattle.meaning.specs.Input.{Input}
+use Rattle.meaning.specs.Answers.{zeroFloat, oneFloat, faceVerdict, contentsVerdict, verdictOf}
+
+abbrev two : Float
+two = fin false 1 (pos 1)
+
+abbrev half : Float
+half = fin false 1 (negsuc 0)
+
+-- 1,048,576.0 and the next f32 above it
+abbrev most : Float
+most = fin false 1 (pos 20)
+
+abbrev above : Float
+above = fin false 8388609 (negsuc 2)
+
+abbrev minusZero : Float
+minusZero = fin true 0 (pos 0)
+
+-- the square with its last coordinate, its last two point numbers, its ratio, its limit and the room for f64
+abbrev square : Float → ℕ → ℕ → Float → Limit → ℕ → Input
+square z b c ratio limit f64s =
+    let o = zeroFloat in
+    record {
+      points = o ∷ o ∷ o ∷ two ∷ o ∷ o ∷ two ∷ two ∷ o ∷ o ∷ two ∷ o ∷ oneFloat ∷ oneFloat ∷ z ∷ [];
+      faces = 0 ∷ 1 ∷ 4 ∷ 1 ∷ 2 ∷ 4 ∷ 2 ∷ 3 ∷ 4 ∷ 3 ∷ b ∷ c ∷ [];
+      rooms = record { points = 15; faces = 12; u32s = 208; f32s = 68; f64s = f64s };
+      ratio = ratio;
+      limit = limit;
+      bound = most;
+    }
+
+abbrev pub cases : List (Input × Verdict)
+cases =
+    (square zeroFloat 0 4 half Unlimited 104, Admitted)
+    -- at the bound, ratio 1, limit 0
+    ∷ (square most 0 4 oneFloat (AtMost zeroFloat) 104, Admitted)
+    -- one cell short; 3 comes before 5
+    ∷ (square zeroFloat 0 4 nan Unlimited 103, Refused 3 0)
+    -- 5 comes before 6, and 6 before 7
+    ∷ (square zeroFloat 0 4 two (AtMost nan) 104, Refused 5 0)
+    ∷ (square nan 0 4 half (AtMost nan) 104, Refused 6 0)
+    -- the next float above the bound; 7 comes before ratio zero
+    ∷ (square above 0 4 zeroFloat Unlimited 104, Refused 7 14)
+    ∷ (square (inf true) 0 4 half Unlimited 104, Refused 7 14)
+    -- faces unchecked at ratio -0.0
+    ∷ (square zeroFloat 5 5 minusZero Unlimited 104, Copied)
+    -- 8 comes before 9 in one face
+    ∷ (square zeroFloat 5 5 half Unlimited 104, Refused 8 3)
+    ∷ (square zeroFloat 3 4 half Unlimited 104, Refused 9 3)
+    ∷ []
+
+pub refusals-hold : map (λ c. verdictOf (c .0)) cases ≡ map (λ c. c .1) cases
+unfolding verdictOf contentsVerdict faceVerdict some firstOf below lt eq le neg isNan
+refusals-hold = refl

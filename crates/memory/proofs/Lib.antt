@@ -1,0 +1,4 @@
+-- Laws of the memory, leaves first.
+pub mod FrameLaws
+pub mod PointLaws
+pub mod MeshLaws

@@ -1,0 +1,51 @@
+-- The mesh that the memory stands for: what it says of each point, what storing one point does to it, and what of the u32 memory it hangs on.
+-- Assumes nothing.
+use Prim.Native.Nat.{ℕ, _*_, _≤_, _<_}
+use native.Mathlib.Omega.{arith}
+use mathlib.Core.Path.{_≡_}
+use mathlib.Core.List.{List, map}
+use lib.Ieee.{Float}
+use lib.ListN.{length, getD, set}
+use Rattle.geometry.specs.declared.Point.{Point}
+use Rattle.geometry.specs.declared.Quadric.{Quadric}
+use Rattle.placement.specs.declared.pair.Vertex.{Vertex}
+use Rattle.placement.specs.Choices.{kindOf}
+use Rattle.walk.specs.declared.Face.{Face}
+use Rattle.lists.specs.Lists.{below}
+use Rattle.walk.specs.Points.{Mesh}
+use Rattle.memory.specs.Memory.{kind, liveFaces}
+use Rattle.memory.specs.Points.{vertexAt, withPoint, withQuadric, meshOf}
+use Rattle.memory.proofs.PointLaws.{point-stored, point-other, quadric-stored, quadric-other}
+use Rattle.lists.proofs.EachLaws.{length-each, getD-each, each-same, each-moved}
+
+-- two meshes with the same points and the same faces
+pub mesh-of-parts : (points points' : List Vertex) (faces faces' : List Face) → points ≡ points' → faces ≡ faces' →
+    _≡_ {A = Mesh Vertex} (record { points = points; faces = faces }) (record { points = points'; faces = faces' })
+mesh-of-parts points points' faces faces' e d = rw (e, d)
+
+module _ (v f : ℕ) (w : List ℕ) (p q : List Float) where
+  -- the mesh has v points
+  pub mesh-length : length (meshOf v f w p q .points) ≡ v
+  unfolding meshOf
+  mesh-length = length-each (vertexAt v f w p q) v
+
+  -- each is what the memory has of it
+  pub mesh-point : (x : ℕ) (d : Vertex) → x < v → getD (meshOf v f w p q .points) x d ≡ vertexAt v f w p q x
+  unfolding meshOf
+  mesh-point x d h = getD-each (vertexAt v f w p q) v x d h
+
+  -- storing a point and a quadric at keep changes what keep carries, and no other
+  pub mesh-moved : (keep : ℕ) (a : Point) (b : Quadric) → keep < v → 3 * v ≤ length p → 10 * v ≤ length q →
+      map (vertexAt v f w (withPoint p keep a) (withQuadric q keep b)) (below v)
+      ≡ set (map (vertexAt v f w p q) (below v)) keep (record { point = a; quadric = b; kind = kindOf (kind v f w keep) })
+  mesh-moved keep a b here p-long q-long =
+      let moved = vertexAt v f w (withPoint p keep a) (withQuadric q keep b) in
+      rw (point-stored p keep a (omega arith), quadric-stored q keep b (omega arith)) at
+      (each-moved (vertexAt v f w p q) moved v keep here (λ x other. rw (point-other p keep a x other, quadric-other q keep b x other)))
+
+-- the mesh hangs on the u32 memory only through the kinds of the v points and the live faces
+pub mesh-same : (v f : ℕ) (w w' : List ℕ) (p q : List Float) →
+    ((x : ℕ) → x < v → kind v f w' x ≡ kind v f w x) → liveFaces f w' ≡ liveFaces f w → meshOf v f w' p q ≡ meshOf v f w p q
+unfolding meshOf
+mesh-same v f w w' p q kinds faces =
+    mesh-of-parts _ _ _ _ (each-same (vertexAt v f w p q) (vertexAt v f w' p q) v (λ x h. rw (kinds x h))) faces

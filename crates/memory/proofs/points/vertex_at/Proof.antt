@@ -1,0 +1,40 @@
+-- `memory::points::vertex_at` meets its contract: each part is what the function that read it ensures.
+-- Assumes nothing.
+use borrow.Author.Needs.{needs}
+use mathlib.Core.Path.{_≡_, ap, _∙_}
+use Rattle.geometry.specs.declared.Point.{Point}
+use Rattle.geometry.specs.declared.Quadric.{Quadric}
+use Rattle.placement.specs.declared.Kind.{Kind}
+use Rattle.placement.specs.declared.pair.Vertex.{Vertex}
+use Rattle.placement.specs.Choices.{kindOf}
+use Rattle.memory.proofs.points.vertex_at.Statement.{statement}
+use Rattle.memory.proofs.points.vertex_at.Tie as tie
+
+point-at-requires : tie.Need-point-at-requires
+point-at-requires c κs = search needs
+
+quadric-at-requires : tie.Need-quadric-at-requires
+quadric-at-requires c κs = search needs
+
+kind-at-requires : tie.Need-kind-at-requires
+kind-at-requires c κs = search needs
+
+kind-of-requires : tie.Need-kind-of-requires
+kind-of-requires c κs = search needs
+
+-- a vertex of equal parts is the same
+abbrev made : Point → Quadric → Kind → Vertex
+made a b k = record { point = a; quadric = b; kind = k }
+
+same-parts : {a a' : Point} {b b' : Quadric} {k k' : Kind} → a ≡ a' → b ≡ b' → k ≡ k' → made a b k ≡ made a' b' k'
+same-parts e d g = rw (e, d, g)
+
+returns : tie.Need-returns
+returns c =
+    same-parts (c .before .before .before .point-at .ensures) (c .before .before .quadric-at .ensures)
+    (c .kind-of .ensures ∙ ap kindOf (c .before .kind-at .ensures))
+
+pub vertex-at-spec : {M : Type 1} → statement M
+vertex-at-spec =
+    tie.close
+    (tie.spec point-at-requires quadric-at-requires kind-at-requires kind-of-requires returns)

@@ -1,0 +1,4 @@
+-- What stands where in the lent memory, and what it says of the mesh.
+pub mod Memory
+pub mod Points
+pub mod Entries

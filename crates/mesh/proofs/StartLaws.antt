@@ -1,0 +1,103 @@
+-- Once points, faces, kinds and quadrics are laid out, the mesh in memory is the one that document 01 starts from.
+-- Assumes nothing.
+use Prim.Native.Nat.{ℕ, _+_, _*_, _≤_, _<_}
+use native.Mathlib.Omega.{arith}
+use mathlib.Core.Path.{_≡_, refl, sym, ap, _∙_}
+use mathlib.Core.List.{List, [], _∷_, map}
+use mathlib.Core.Bool.{Bool, true, not, _&&_, cond}
+use lib.Ieee.{Float}
+use lib.ListN.{length, getD, length-map}
+use Rattle.geometry.specs.Quadrics.{zeroQuadric}
+use Rattle.lists.specs.Lists.{those, every, count, below}
+use Rattle.walk.specs.Faces.{proper, facesOf, borderPoint, faceAt}
+use Rattle.lists.proofs.SumLaws.{every-count, every-at, every-from, length-below, getD-below}
+use Rattle.lists.proofs.ListLaws.{every-head, every-tail, length-those, count-not}
+use Rattle.memory.specs.Memory.{kind, lives, liveFaces}
+use Rattle.mesh.specs.Contracts.Laid.{Laid, Bordered}
+use Rattle.meaning.specs.Input.{pointAt}
+use Rattle.memory.specs.Points.{quadricAt, withPoints, vertexAt, meshOf}
+use Rattle.meaning.specs.Start.{gathered, startVertex, startMesh}
+use Rattle.mesh.specs.Contracts.Quadrics.{QuadricsAre}
+use Rattle.lists.proofs.EachLaws.{length-each, getD-each, each-same}
+use Rattle.memory.proofs.MeshLaws.{mesh-of-parts}
+use Rattle.mesh.proofs.GatheredLaws.{gathered-same}
+use Rattle.mesh.proofs.QuadricLaws.{points-laid}
+
+-- ---- f live faces in f slots are in all of them
+
+-- where every one passes, those that pass are all
+those-every : {A : Type 0} (test : A → Bool) (xs : List A) → every test xs ≡ true → those test xs ≡ xs
+unfolding those every
+those-every test [] all = refl
+those-every {A} test (x ∷ xs) all =
+    rw (every-head test x xs all) (ap (λ (ys : List A). x ∷ ys) (those-every test xs (every-tail test x xs all)))
+
+module _ (f : ℕ) (faces w : List ℕ) (same : liveFaces f w ≡ facesOf f faces) where
+  -- every slot is live
+  all-live : every (lives f w) (below f) ≡ true
+  unfolding liveFaces
+  all-live =
+      let as-many : length (those (lives f w) (below f)) ≡ f =
+      sym (length-map (those (lives f w) (below f)) (faceAt w)) ∙ ap length same ∙ length-each _ f in
+      let none : count (λ k. not (lives f w k)) (below f) ≡ 0 =
+      omega (arith, count-not (lives f w) (below f), length-those (lives f w) (below f), length-below f) in
+      every-count (lives f w) (below f) ∙ rw none
+
+  -- the faces by slot are the input's
+  pub slots-laid : map (faceAt w) (below f) ≡ facesOf f faces
+  unfolding liveFaces
+  slots-laid = ap (map (faceAt w)) (sym (those-every (lives f w) (below f) all-live)) ∙ same
+
+  -- so they are proper
+  pub slots-proper : (v : ℕ) → every (proper v) (facesOf f faces) ≡ true → (k : ℕ) → k < f → proper v (faceAt w k) ≡ true
+  slots-proper v all k h =
+      let first = faceAt w 0 in
+      rw (getD-each (faceAt w) f k first h) at
+      (every-at (proper v) first (map (faceAt w) (below f)) (rw slots-laid all) k (rw length-each h))
+
+-- kinds are written past the faces
+pub bordered-laid : {v f n : ℕ} {preserve : Bool} {faces w₀ w w' : List ℕ} →
+    Laid v f faces w₀ w → Bordered v f preserve w w' n → liveFaces f w' ≡ facesOf f faces
+unfolding liveFaces
+bordered-laid {v} {f} {n} {preserve} {faces} {w₀} {w} {w'} laid bordered =
+    let kept : (i : ℕ) → i < 4 * f → getD w' i 0 ≡ getD w i 0 = λ i l. bordered .but .under i (omega arith) in
+    let before = every-at (lives f w) 0 (below f) (all-live f faces w (laid .same-faces)) in
+    let live : every (lives f w') (below f) ≡ true =
+    every-from (lives f w') 0 (below f)
+    (λ k l. let k-f : k < f = rw length-below at l in
+    rw (getD-below f k k-f, kept (3 * f + k) (omega arith)) (rw (getD-below f k k-f) at (before k l))) in
+    ap (map (faceAt w')) (those-every (lives f w') (below f) live)
+    ∙ each-same (faceAt w) (faceAt w') f
+    (λ k l. rw (kept (3 * k) (omega arith), kept (3 * k + 1) (omega arith), kept (3 * k + 2) (omega arith)))
+    ∙ slots-laid f faces w (laid .same-faces)
+
+-- ---- the start
+
+module _ (v f : ℕ) (points : List Float) (faces : List ℕ) (preserve : Bool) (all-proper : every (proper v) (facesOf f faces) ≡ true) where
+  -- from what the memory holds of each point
+  pub mesh-started : (w : List ℕ) (p q : List Float) →
+      liveFaces f w ≡ facesOf f faces →
+      ((x : ℕ) → x < v → kind v f w x ≡ cond (preserve && borderPoint v (facesOf f faces) x) 1 0) →
+      ((x : ℕ) → x < v → pointAt p x ≡ pointAt points x) →
+      ((x : ℕ) → x < v → quadricAt q x ≡ gathered p x zeroQuadric (facesOf f faces)) →
+      meshOf v f w p q ≡ startMesh v f points faces preserve
+  unfolding meshOf startMesh
+  mesh-started w p q same kinds places quadrics =
+      let faces-of = facesOf f faces in
+      let quadric : (x : ℕ) → x < v → quadricAt q x ≡ gathered points x zeroQuadric faces-of =
+      λ x h. quadrics x h ∙ gathered-same points p v places x zeroQuadric faces-of all-proper in
+      mesh-of-parts _ _ _ _
+      (each-same (startVertex points faces-of v preserve) (vertexAt v f w p q) v (λ x h. rw (places x h, quadric x h, kinds x h))) same
+
+  -- the same, as the contracts of laying hand it over. The quadrics may be laid before the kinds or after them, from w'.
+  pub mesh-laid : {n : ℕ} {w₀ w₁ w : List ℕ} {p q₀ q : List Float} (w' : List ℕ) (p₀ : List Float) →
+      Laid v f faces w₀ w₁ → Bordered v f preserve w₁ w n →
+      3 * v ≤ length points → p ≡ withPoints v points p₀ →
+      liveFaces f w' ≡ facesOf f faces →
+      QuadricsAre v (λ x. gathered p x zeroQuadric (map (faceAt w') (below f))) q₀ q →
+      meshOf v f w p q ≡ startMesh v f points faces preserve
+  mesh-laid {n} {w₀} {w₁} {w} {p} {q₀} {q} w' p₀ laid bordered long copied same quadrics =
+      mesh-started w p q (bordered-laid laid bordered)
+      (λ x h. bordered .kinds x h ∙ rw (laid .same-faces))
+      (λ x h. rw copied (points-laid v points p₀ long x h))
+      (λ x h. quadrics .at x h ∙ ap (gathered p x zeroQuadric) (slots-laid f faces w' same))

@@ -1,3 +1,0 @@
-pub mod WaitLaws
-pub mod AddLaws
-pub mod StartLaws

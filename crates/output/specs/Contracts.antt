@@ -1,0 +1,3 @@
+-- What writing the output asks and leaves.
+pub mod Written
+pub mod Numbering

@@ -1,0 +1,2 @@
+-- The output.
+pub mod Contracts

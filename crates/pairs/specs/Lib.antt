@@ -1,4 +1,0 @@
--- The open pairs in lent memory.
-pub mod Memory
-pub mod Ranks
-pub mod Changes

@@ -1,0 +1,8 @@
+-- Laws of the walk in memory, leaves first.
+pub mod MemoryLaws
+pub mod NoteLaws
+pub mod GoingLaws
+pub mod AnswerLaws
+pub mod FoldedLaws
+pub mod WalkLaws
+pub mod Theorems

@@ -1,0 +1,56 @@
+-- `plainwalk::plain_step` meets its contract: at the end nothing is done, and else the answer is that of the least open pair.
+-- Assumes nothing.
+use native.Mathlib.Omega.{arith}
+use borrow.Author.Needs.{needs}
+use Rattle.plainwalk.proofs.MemoryLaws.{open-named, open-few}
+use Rattle.plainwalk.proofs.AnswerLaws.{at-target, none-open, least-step}
+use Rattle.plainwalk.proofs.plain_step.Statement.{statement}
+use Rattle.plainwalk.proofs.plain_step.Tie as tie
+
+returns : tie.Need-returns
+returns c =
+    let s = c .before .before .before .before in
+    at-target (s .pre) (s .args .target) (s .args .limit) (s .args .bound) (omega (arith, c .if1 .taken))
+
+returns-2 : tie.Need-returns-2
+returns-2 c =
+    let s = c .before .before .before .before .before in
+    none-open (s .pre) (s .args .target) (s .args .limit) (s .args .bound) (c .if2 .taken)
+
+least-pair-requires : tie.Need-least-pair-requires
+least-pair-requires c κs =
+    let h = c .before .before .before .before .before .before .before .before .pre in
+    (omega (arith, c .before .before .before .if2 .left), (open-few h, (h .tidy .room, (open-named h, (h .points-long, h .quadrics-long)))))
+
+try-pair-requires : tie.Need-try-pair-requires
+try-pair-requires c κs =
+    let least = c .before .before .before .least-pair .ensures (c .before .before .before .before .before .before .before .before .before .before .before .before .args .limit) in
+    (c .before .before .before .before .before .before .before .before .before .before .before .before .pre, record { within = least .within; same-pair = least .same-pair; place = least .place })
+
+same-length : tie.Need-same-length
+same-length c = search needs
+
+same-length-2 : tie.Need-same-length-2
+same-length-2 c = search needs
+
+same-length-3 : tie.Need-same-length-3
+same-length-3 c = search needs
+
+returns-3 : tie.Need-returns-3
+returns-3 c =
+    let s = c .before .before .before .before .before .before .before .before .before .before .before .before .before .before .before .before .before .before .before in
+    least-step (s .pre) (s .args .target) (s .args .limit) (s .args .bound) (omega (arith, c .before .before .before .before .before .before .before .before .before .before .before .before .before .before .before .if1 .left))
+    (c .before .before .before .before .before .before .before .before .before .before .least-pair .result) (c .before .before .before .before .before .before .before .before .before .before .least-pair .ensures (s .args .limit)) (c .before .before .before .before .before .before .try-pair .ensures)
+
+pub plain-step-spec : {M : Type 1} → statement M
+plain-step-spec =
+    tie.close
+    (tie.spec
+    returns
+    returns-2
+    least-pair-requires
+    try-pair-requires
+    same-length
+    same-length-2
+    same-length-3
+    returns-3)

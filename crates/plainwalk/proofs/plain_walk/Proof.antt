@@ -1,0 +1,33 @@
+-- `plainwalk::plain_walk` meets its contract: once the first pairs are open the memory holds the start, and the walk from there is the whole walk.
+-- Assumes nothing.
+use borrow.Author.Needs.{needs}
+use Rattle.plainwalk.proofs.WalkLaws.{start-holds, walk-done}
+use Rattle.plainwalk.proofs.plain_walk.Statement.{statement}
+use Rattle.plainwalk.proofs.plain_walk.Tie as tie
+
+open-start-requires : tie.Need-open-start-requires
+open-start-requires c κs = let s = c .before .before .before .before .before .before in (s .pre .0, (s .pre .1 .1 .0, s .pre .1 .1 .1))
+
+walk-on-requires : tie.Need-walk-on-requires
+walk-on-requires c κs =
+    let s = c .before .before .before .before .before .before .before .before .before .before .before .before in
+    start-holds (s .args .p .now) (s .args .q .now) (s .args .limit) (s .args .bound) (s .pre .0) (s .pre .1 .0) (s .pre .1 .1 .0) (s .pre .1 .1 .1)
+    (c .before .before .before .before .before .open-start .ensures)
+
+same-length : tie.Need-same-length
+same-length c = search needs
+
+same-length-2 : tie.Need-same-length-2
+same-length-2 c = search needs
+
+same-length-3 : tie.Need-same-length-3
+same-length-3 c = search needs
+
+returns : tie.Need-returns
+returns c =
+    let s = c .before .before .before .before .before .before .before .before .before .before .before .before .before .before .before .before .before .before .before in
+    walk-done (s .args .p .now) (s .args .q .now) (s .args .limit) (s .args .bound) (s .pre .0) (s .pre .1 .0) (s .pre .1 .1 .0) (s .pre .1 .1 .1)
+    (c .before .before .before .before .before .before .before .before .before .before .before .before .open-start .ensures) (c .before .before .before .before .before .before .walk-on .ensures)
+
+pub plain-walk-spec : {M : Type 1} → statement M
+plain-walk-spec = tie.close (tie.spec open-start-requires walk-on-requires same-length same-length-2 same-length-3 returns)

@@ -1,0 +1,3 @@
+-- The plain walk as code: what a step and the whole walk leave in the memory.
+pub mod Steps
+pub mod Whole

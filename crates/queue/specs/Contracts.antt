@@ -1,0 +1,7 @@
+-- What the queue's functions ask and leave.
+pub mod Ranks
+pub mod Order
+pub mod Places
+pub mod Queued
+pub mod Changes
+pub mod Pushing

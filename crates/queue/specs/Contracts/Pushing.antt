@@ -1,0 +1,36 @@
+-- What the steps of putting an entry into the queue leave in the memory.
+use Prim.Native.Nat.{ℕ, _+_, _*_, _<_}
+use mathlib.Core.Path.{_≡_}
+use mathlib.Core.List.{List}
+use lib.ListN.{set}
+use lib.Ieee.{Float}
+use Rattle.geometry.specs.declared.Point.{Point}
+use Rattle.lists.specs.Lists.{SameBag}
+use Rattle.lists.specs.Frames.{But}
+use Rattle.memory.specs.Points.{withPoint}
+use Rattle.memory.specs.Entries.{stamp}
+use Rattle.queue.specs.State.{openIn}
+use Rattle.queue.specs.Contracts.Queued.{Queue}
+use Rattle.queue.specs.Contracts.Changes.{Fewer}
+
+-- there is room for an entry: old ones may be gone, and the current ones stay
+pub record RoomMade (v f : ℕ) (w : List ℕ) (q : List Float) (n : ℕ) (w' : List ℕ) (n' : ℕ) : Type 0 where
+  pub but : But (15 * f + 5 * v) (18 * f + 5 * v) w w'
+  pub queue : Queue v f w' q n'
+  pub fewer : Fewer v f w n w' n'
+  pub same-open : SameBag (openIn v f w' n') (openIn v f w n)
+  pub free : n' < 3 * f
+
+-- the memory with a pair in slot s, and with two stamps
+abbrev pub withPair : ℕ → ℕ → List ℕ → ℕ → ℕ → ℕ → List ℕ
+withPair v f w s keep remove = set (set w (7 * f + 4 * v + s) keep) (10 * f + 4 * v + s) remove
+
+abbrev pub withStamps : ℕ → ℕ → List ℕ → ℕ → ℕ → ℕ → List ℕ
+withStamps v f w s a b = set (set w (18 * f + 5 * v + s) a) (21 * f + 5 * v + s) b
+
+-- an entry is written into slot s, with the present stamps of its points
+pub record EntryPut (v f : ℕ) (w : List ℕ) (p q : List Float) (s keep remove : ℕ) (cost : Float) (place : Point) (w' : List ℕ) (p' q' : List Float) :
+    Type 0 where
+  pub words : w' ≡ withStamps v f (withPair v f w s keep remove) s (stamp v f w keep) (stamp v f w remove)
+  pub places : p' ≡ withPoint p (v + s) place
+  pub costs : q' ≡ set q (10 * v + s) cost

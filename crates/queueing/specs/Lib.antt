@@ -1,3 +1,0 @@
--- Pairs are opened into the queue.
-pub mod Entering
-pub mod Listing

@@ -1,5 +1,0 @@
--- What follows from the definitions of specs/, and is no code.
-pub mod OverLaws
-pub mod NumberingLaws
-pub mod WritingLaws
-pub mod SlotLaws

@@ -1,3 +1,0 @@
--- The output.
-pub mod Written
-pub mod Numbering

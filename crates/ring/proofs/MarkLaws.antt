@@ -1,0 +1,126 @@
+-- Rules by which marks change: one after another, at one point, and at the points of a face.
+-- Assumes nothing.
+use Prim.Native.Nat.{ℕ, _+_, _-_, _*_, _≤_, _<_}
+use native.Mathlib.Nat.{add-zero}
+use native.Mathlib.Omega.{arith}
+use mathlib.Core.Path.{_≡_, refl, sym, ap, subst, _∙_}
+use mathlib.Core.Logic.{_≢_}
+use mathlib.Core.List.{List}
+use mathlib.Core.Bool.{true, false, _&&_, _||_, cond}
+use lib.Dec.{ltb, eqb}
+use lib.ListN.{getD, set}
+use lib.Seq.{getD-set-same, getD-set-other, ext-getD}
+use borrow.Author.Tests.{ne-eqb, eqb-true, eqb-false, ltb-true, ltb-false}
+use Rattle.walk.specs.declared.Face.{Face}
+use Rattle.walk.specs.Faces.{holds, proper}
+use Rattle.lists.proofs.TestLaws.{by-test, flag-le}
+use Rattle.memory.specs.Memory.{mark, Room}
+use Rattle.ring.specs.Contracts.Marking.{Remarked}
+use Rattle.lists.proofs.CountLaws.{cond-either}
+use Rattle.lists.proofs.CondLaws.{cond-three}
+use Rattle.lists.proofs.FrameLaws.{but-refl, but-then, but-set}
+use Rattle.mesh.proofs.FaceCorners.{Points, points}
+
+module _ {v f : ℕ} where
+  -- ---- rules
+
+  -- no mark changes
+  pub remarked-none : (w : List ℕ) → Remarked v f (λ u m. m) w w
+  remarked-none w = record { but = but-refl (7 * f + 2 * v) (7 * f + 3 * v) w; marks = λ u l. refl }
+
+  -- one rule after another
+  pub remarked-then : {rule next : ℕ → ℕ → ℕ} {w w' w'' : List ℕ} →
+      Remarked v f rule w w' → Remarked v f next w' w'' → Remarked v f (λ u m. next u (rule u m)) w w''
+  remarked-then {rule} {next} r s = record { but = but-then (r .but) (s .but); marks = λ u l. s .marks u l ∙ ap (next u) (r .marks u l) }
+
+  -- another rule that says the same
+  pub remarked-as : {rule same : ℕ → ℕ → ℕ} {w w' : List ℕ} →
+      ((u : ℕ) → u < v → rule u (mark v f w u) ≡ same u (mark v f w u)) → Remarked v f rule w w' → Remarked v f same w w'
+  remarked-as e r = record { but = r .but; marks = λ u l. r .marks u l ∙ e u l }
+
+  -- where no mark changes, no cell of the marks does
+  mark-cell : {w w' : List ℕ} → Remarked v f (λ u m. m) w w' →
+      (i : ℕ) → 7 * f + 2 * v ≤ i → i < 7 * f + 3 * v → getD w' i 0 ≡ getD w i 0
+  mark-cell r i from to =
+      let offset : 7 * f + 2 * v + (i - (7 * f + 2 * v)) ≡ i = omega arith in
+      rw offset at (r .marks (i - (7 * f + 2 * v)) (omega arith))
+
+  -- and so the memory stays
+  pub remarked-same : {w w' : List ℕ} → Remarked v f (λ u m. m) w w' → w' ≡ w
+  remarked-same {w} {w'} r =
+      ext-getD 0 w' w (r .but .same-length)
+      (λ i l.
+      by-test (ltb i (7 * f + 2 * v))
+      (λ e. r .but .under i (ltb-true i (7 * f + 2 * v) e))
+      (λ e. by-test (ltb i (7 * f + 3 * v))
+      (λ e'. mark-cell r i (ltb-false i (7 * f + 2 * v) e) (ltb-true i (7 * f + 3 * v) e'))
+      (λ e'. r .but .over i (ltb-false i (7 * f + 3 * v) e'))))
+
+  -- ---- one point
+
+  pub remarked-set : {w : List ℕ} (x value : ℕ) → Room v f w → x < v →
+      Remarked v f (λ u m. cond (eqb u x) value m) w (set w (7 * f + 2 * v + x) value)
+  remarked-set {w} x value room l = record {
+    but = but-set (7 * f + 2 * v) (7 * f + 3 * v) w (7 * f + 2 * v + x) value (omega arith) (omega arith);
+    marks = λ u m.
+        by-test (eqb u x)
+        (λ e. rw (e, eqb-true u x e) (getD-set-same w (7 * f + 2 * v + x) value 0 (omega arith)))
+        (λ e. let apart : u ≢ x = eqb-false u x e in
+        rw e (getD-set-other w (7 * f + 2 * v + x) (7 * f + 2 * v + u) value 0 (omega arith)));
+  }
+
+  -- 1 more at a point
+  pub remarked-add : {w : List ℕ} (x : ℕ) → Room v f w → x < v →
+      Remarked v f (λ u m. m + cond (eqb u x) 1 0) w (set w (7 * f + 2 * v + x) (mark v f w x + 1))
+  remarked-add {w} x room l =
+      remarked-as
+      (λ u m. by-test (eqb u x) (λ e. rw (e, eqb-true u x e)) (λ e. rw e (sym (add-zero (mark v f w u)))))
+      (remarked-set x (mark v f w x + 1) room l)
+
+  pub remarked-most : (x : ℕ) {w w' : List ℕ} → Remarked v f (λ u m. m + cond (eqb u x) 1 0) w w' →
+      (u : ℕ) → u < v → mark v f w' u ≤ mark v f w u + 1
+  remarked-most x r u l = omega (arith, r .marks u l, flag-le (eqb u x))
+
+-- ---- the points of a face
+
+-- one number is not two others
+not-two : (p x y : ℕ) → x ≢ y → (eqb p x && eqb p y) ≡ false
+not-two p x y apart =
+    by-test (eqb p x) (λ e. rw e (ne-eqb p y (λ q. apart (sym (eqb-true p x e) ∙ q)))) (λ e. rw e)
+
+-- 1 for each corner at u is 1 for a proper face that holds u
+corners-once : (v u : ℕ) (p : Face) → proper v p ≡ true →
+    cond (eqb u (p .a)) 1 0 + cond (eqb u (p .b)) 1 0 + cond (eqb u (p .c)) 1 0 ≡ cond (holds u p) 1 0
+corners-once v u p h =
+    let q : Points v p = points v p h in
+    cond-three (eqb u (p .a)) (eqb u (p .b)) (eqb u (p .c)) 1
+    (not-two u (p .a) (p .b) (q .a-b)) (not-two u (p .b) (p .c) (q .b-c)) (not-two u (p .c) (p .a) (q .c-a))
+
+-- the points of a face that was read
+pub points-read : (v : ℕ) {p q : Face} → p ≡ q → proper v q ≡ true → Points v p
+points-read v {p} read h = points v p (ap (proper v) read ∙ h)
+
+module _ {v f : ℕ} {w w₁ w₂ w₃ : List ℕ} {p : Face} (q : Face) (read : p ≡ q) where
+  -- 1 more at each point
+  pub face-marked : proper v q ≡ true →
+      Remarked v f (λ u m. m + cond (eqb u (p .a)) 1 0) w w₁ →
+      Remarked v f (λ u m. m + cond (eqb u (p .b)) 1 0) w₁ w₂ →
+      Remarked v f (λ u m. m + cond (eqb u (p .c)) 1 0) w₂ w₃ →
+      Remarked v f (λ u m. m + cond (holds u q) 1 0) w w₃
+  face-marked h a b c =
+      subst (λ (q : Face). Remarked v f (λ u m. m + cond (holds u q) 1 0) w w₃) read
+      (remarked-as (λ u l. omega (arith, corners-once v u p (ap (proper v) read ∙ h))) (remarked-then (remarked-then a b) c))
+
+  -- 0 at each point
+  pub face-cleared :
+      Remarked v f (λ u m. cond (eqb u (p .a)) 0 m) w w₁ →
+      Remarked v f (λ u m. cond (eqb u (p .b)) 0 m) w₁ w₂ →
+      Remarked v f (λ u m. cond (eqb u (p .c)) 0 m) w₂ w₃ →
+      Remarked v f (λ u m. cond (holds u q) 0 m) w w₃
+  face-cleared a b c =
+      subst (λ (q : Face). Remarked v f (λ u m. cond (holds u q) 0 m) w w₃) read
+      (remarked-as
+      (λ u l.
+      ap (cond (eqb u (p .c)) 0) (cond-either (eqb u (p .a)) (eqb u (p .b)) (mark v f w u))
+      ∙ cond-either (eqb u (p .a) || eqb u (p .b)) (eqb u (p .c)) (mark v f w u))
+      (remarked-then (remarked-then a b) c))

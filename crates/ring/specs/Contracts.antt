@@ -1,0 +1,6 @@
+-- What marking, counting and listing ask and leave, step by step.
+pub mod Marking
+pub mod Counting
+pub mod Listing
+pub mod Wanting
+pub mod Taking

@@ -1,0 +1,2 @@
+-- What is around a point.
+pub mod Contracts

@@ -1,0 +1,16 @@
+-- Laws of the definitions, leaves first.
+pub mod FaceLaws
+pub mod FoldLaws
+pub mod PairLaws
+pub mod SoundLaws
+pub mod StepLaws
+pub mod WalkLaws
+pub mod GoneLaws
+pub mod SamePairs
+pub mod LeastLaws
+pub mod BagWalk
+pub mod OpenSums
+pub mod PlaceLaws
+pub mod RenumberLaws
+pub mod StateLaws
+pub mod RunLaws

@@ -1,0 +1,20 @@
+-- What a fold does (document 01, "A fold moves keep").
+use mathlib.Core.List.{List, map}
+use mathlib.Core.Bool.{not}
+use lib.ListN.{set}
+use Rattle.lists.specs.Lists.{those}
+use Rattle.walk.specs.declared.Face.{Face}
+use Rattle.walk.specs.declared.Pair.{Pair}
+use Rattle.walk.specs.Faces.{both, renamedFace}
+use Rattle.walk.specs.Points.{Rules, Mesh, mergedOf}
+
+-- the faces after a fold: those that hold both are gone, and in the rest remove's number is keep's
+unfoldable pub foldedFaces : List Face → Pair → List Face
+unfolding those
+foldedFaces faces p = map (renamedFace (p .keep) (p .remove)) (those (λ f. not (both (p .keep) (p .remove) f)) faces)
+
+module _ {D : Type 0} (rules : Rules D) where
+  -- the mesh after a fold
+  unfoldable pub foldedMesh : Mesh D → Pair → Mesh D
+  unfolding foldedFaces
+  foldedMesh m p = record { points = set (m .points) (p .keep) (mergedOf rules m p); faces = foldedFaces (m .faces) p }

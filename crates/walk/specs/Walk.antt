@@ -1,0 +1,83 @@
+-- The plain walk: the meaning of thinning (document 01, "Pairs, folds, ends"). No heap, no stamps, every cost worked out anew.
+use Prim.Native.Nat.{ℕ, zero, suc, _+_, _*_}
+use mathlib.Core.Path.{_≡_}
+use mathlib.Core.List.{List, [], _∷_, _++_}
+use mathlib.Core.Bool.{_&&_, cond}
+use lib.Dec.{leb}
+use lib.ListN.{length}
+use Rattle.lists.specs.Lists.{those, without, SameBag}
+use Rattle.walk.specs.declared.Pair.{Pair}
+use Rattle.walk.specs.Points.{Rules, Mesh}
+use Rattle.walk.specs.Pairs.{samePair, apart, pairsBelow, rises, eligiblePair, least, opened}
+use Rattle.walk.specs.FoldTest.{allowed}
+use Rattle.walk.specs.Fold.{foldedMesh}
+
+-- ---- the state, and one step
+
+-- the mesh and the pairs that are open, each once
+pub record State (D : Type 0) : Type 0 where
+  pub mesh : Mesh D
+  pub «open» : List Pair
+
+-- two states that differ at most in the order in which their open pairs are listed
+pub record SameState {D : Type 0} (s t : State D) : Type 0 where
+  pub same-mesh : s .mesh ≡ t .mesh
+  pub same-open : SameBag (s .«open») (t .«open»)
+
+-- what a step did
+pub data Answer : Type 0 where
+  folded : Pair → Answer
+  closed : Pair → Answer
+  ended : Answer
+
+-- the pair that an answer folded
+unfoldable pub foldOf : Answer → List Pair
+foldOf (folded p) = p ∷ []
+foldOf (closed p) = []
+foldOf ended = []
+
+-- A budget that is always enough: the live faces times one more than three for each input face, and the open pairs. It falls at every step before the end.
+unfoldable pub budget : {D : Type 0} → ℕ → State D → ℕ
+budget faces s = length (s .mesh .faces) * (3 * faces + 1) + length (s .«open»)
+
+module _ {D : Type 0} (rules : Rules D) where
+  -- at the start each face edge that runs from a lower to a higher number opens that pair
+  unfoldable pub started : Mesh D → State D
+  unfolding those pairsBelow
+  started m = record { mesh = m; «open» = those (λ p. rises (m .faces) p && eligiblePair rules m p) (pairsBelow (length (m .points))) }
+
+  -- the least open pair is folded where that is allowed, and closed where it is not
+  unfoldable pub tried : Mesh D → Pair → Answer
+  unfolding allowed
+  tried m p = cond (allowed rules m p) (folded p) (closed p)
+
+  unfoldable pub chosen : Mesh D → List Pair → Answer
+  unfolding least tried
+  chosen m [] = ended
+  chosen m (p ∷ ps) = tried m (least rules m p ps)
+
+  -- the walk ends at the target or with no open pair
+  unfoldable pub answer : ℕ → State D → Answer
+  unfolding chosen
+  answer target s = cond (leb (length (s .mesh .faces)) target) ended (chosen (s .mesh) (s .«open»))
+
+  -- the state after an answer
+  unfoldable pub after : State D → Answer → State D
+  unfolding foldedMesh those opened without
+  after s (folded p) =
+      record { mesh = foldedMesh rules (s .mesh) p; «open» = those (apart p) (s .«open») ++ opened rules (foldedMesh rules (s .mesh) p) (p .keep) }
+  after s (closed p) = record { mesh = s .mesh; «open» = without (samePair p) (s .«open») }
+  after s ended = s
+
+  -- ---- the walk: the step on a budget
+
+  unfoldable pub walk : ℕ → ℕ → State D → State D
+  unfolding after answer
+  walk target zero s = s
+  walk target (suc n) s = walk target n (after s (answer target s))
+
+  -- the pairs folded on the way, in order
+  unfoldable pub foldList : ℕ → ℕ → State D → List Pair
+  unfolding foldOf after answer
+  foldList target zero s = []
+  foldList target (suc n) s = foldOf (answer target s) ++ foldList target n (after s (answer target s))

@@ -1,3 +1,0 @@
--- The walks as code: what a step and the whole walk leave in the memory.
-pub mod Steps
-pub mod Whole
