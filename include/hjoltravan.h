@@ -1,5 +1,5 @@
 /* Hjoltravan: thins a triangle mesh. Every answer is proved to be the one that the statement
-   in crates/thinning/specs/ gives, for any input. No allocation, no global state, no errno. */
+   in crates/meaning/specs/Call.antt gives, for any input. No allocation, no global state, no errno. */
 #ifndef HJOLTRAVAN_H
 #define HJOLTRAVAN_H
 

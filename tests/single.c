@@ -12,7 +12,7 @@
 #include <stdlib.h>
 #include <string.h>
 
-/* The crate `single`, for tests alone. */
+/* The crate `probes`, for tests alone. */
 void single_plane(const uint32_t points[9], uint64_t out[4]);
 uint64_t single_error(const uint64_t quadric[10], const uint32_t point[3]);
 bool single_inverse(const uint64_t rows[9], uint64_t first[3], uint64_t second[3], uint64_t third[3]);

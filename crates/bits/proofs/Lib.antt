@@ -1,6 +1,6 @@
 -- Laws on the definitions of specs/, by subject.
 pub mod NotANumber
-pub mod Patterns
+pub mod PatternOrder
 pub mod NotBelowZero
 pub mod RootSteps
 pub mod RootTies

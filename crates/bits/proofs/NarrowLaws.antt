@@ -1,22 +1,22 @@
 -- `narrowBits`, which is the kit's `round binary32` on patterns, by the parts of an f64's pattern b: in the normal range (`normal-is`), below it (`subnormal-is`,
--- `zero-is`) and above it (`infinity-is`, `nan-is`). Each says what the code works out. And on floats: `narrowed-is`, `narrowed-number`. Assumes nothing.
+-- `zero-is`) and above it (`infinity-is`, `nan-is`). Each says what the code works out. And on floats: `narrowed-is`. Assumes nothing.
 use mathlib.Core.Path.{_≡_, refl, sym, ap, _∙_}
 use mathlib.Core.Logic.{inl, inr}
 use Prim.Native.Nat.{ℕ, zero, suc, _+_, _-_, _*_, _/_, _%_, _^_, _≤_, _<_}
 use native.Mathlib.Nat.{eq-or-lt-of-le, lt-of-lt-of-le, lt-irrefl, add-zero, pow-suc}
 use native.Mathlib.Omega.{arith}
 use mathlib.Core.Bool.{Bool, true, false, not, cond}
-use lib.Dec.{T, leb, ltb, eqb, leb→le, nleb→lt}
+use lib.Dec.{T, leb, eqb, leb→le, nleb→lt}
 use lib.IntN.{ℤ}
 use lib.Pow.{pow-pos, pow-mono}
-use lib.Ieee.{Float, nan, inf, fin, Format, binary32, binary64, prec, low, up, down, odd, units, round, ofFields, ofBits, toBits, isNan, nanBits, fits}
+use lib.Ieee.{Float, nan, inf, fin, binary32, binary64, low, up, down, odd, round, ofFields, ofBits, toBits, fits}
 use lib.Ieee.Digits.{Equals, odd-val}
-use lib.Ieee.Fits.{down-pos, round-is, nan-fits, inf-fits, round-fits}
-use lib.Ieee.Bits.{ofBits-toBits, nanBits-is}
-use lib.Ieee.Scale.{round-same, overflow}
+use lib.Ieee.Fits.{down-pos, nan-fits, inf-fits, round-fits}
+use lib.Ieee.Bits.{ofBits-toBits}
+use lib.Ieee.Scale.{round-same}
 use lib.Ieee.Nearest.{closest}
 use borrow.Author.Tests.{eq-eqb, ne-eqb}
-use Rattle.bits.specs.Parts.{field}
+use Rattle.bits.specs.Contracts.{field}
 use Rattle.bits.specs.Narrow.{narrowed, narrowBits}
 use Rattle.bits.proofs.HalfEven.{closest-whole, closest-small}
 use Rattle.bits.proofs.Rounded.{closest-hi, round-bits, round-over}
@@ -143,38 +143,11 @@ infinity-is b h lo hi =
 
 -- ---- on floats
 
-pub narrowed-nan : narrowed nan ≡ nan
-unfolding narrowed
-narrowed-nan = refl
-
 pub narrowed-fits : (x : Float) → T (fits binary32 (narrowed x))
 unfolding narrowed
 narrowed-fits nan = nan-fits binary32
 narrowed-fits (inf s) = inf-fits binary32 s
 narrowed-fits (fin s m e) = round-fits binary32 s (m * up e) (down e)
-
--- no rounding makes a NaN
-odd-no-nan : (d : ℕ) (s : Bool) (q k l : ℕ) → isNan (odd d s q k l) ≡ false
-unfolding odd isNan
-odd-no-nan d s zero k l = refl
-odd-no-nan d s (suc q) k l = refl
-
-units-no-nan : (f : Format) (s : Bool) (q k : ℕ) → isNan (units f s q k) ≡ false
-unfolding units isNan
-units-no-nan f s q k = go (ltb (q * 2 ^ k) (overflow f))
-  where
-    go : (t : Bool) → isNan (cond t (odd (suc (prec f)) s q k (low f)) (inf s)) ≡ false
-    go true = odd-no-nan (suc (prec f)) s q k (low f)
-    go false = refl
-
-pub round-no-nan : (f : Format) (s : Bool) (a c : ℕ) → isNan (round f s a c) ≡ false
-round-no-nan f s a c = ap isNan (round-is f s a c) ∙ units-no-nan f s _ _
-
-pub narrowed-no-nan : (x : Float) → T (not (isNan x)) → T (not (isNan (narrowed x)))
-unfolding narrowed isNan
-narrowed-no-nan nan t = t
-narrowed-no-nan (inf s) t = tt
-narrowed-no-nan (fin s m e) t = rw round-no-nan tt
 
 module _ (x : Float) (h : T (fits binary64 x)) where
   -- narrowing an f64's pattern is narrowing the f64
@@ -183,7 +156,3 @@ module _ (x : Float) (h : T (fits binary64 x)) where
   narrowed-is =
       ap (λ (v : Float). ofBits binary32 (toBits binary32 (narrowed v))) (ofBits-toBits binary64 x h)
       ∙ ofBits-toBits binary32 (narrowed x) (narrowed-fits x)
-
-  -- and what is no NaN gives no NaN's pattern
-  pub narrowed-number : T (not (isNan x)) → T (not (nanBits binary32 (narrowBits (toBits binary64 x))))
-  narrowed-number t = rw (nanBits-is, narrowed-is) (narrowed-no-nan x t)

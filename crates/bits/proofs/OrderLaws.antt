@@ -12,7 +12,7 @@ use lib.Ieee.{Float, nan, inf, fin, binary64, below, lt, fits, isNan, ofBits, to
 use lib.Ieee.Bits.{is-true, ofBits-toBits, toBits-lt, nanBits-is, nanBits-above}
 use borrow.Author.Tests.{ltb-true, ltb-false, leb-true, leb-false, lt-ltb, le-ltb, le-leb, lt-leb}
 use Rattle.bits.specs.Order.{negative, quiet, payload, nanOrder, totalOrder, orderKey, floatKey}
-use Rattle.bits.proofs.Patterns.{leb-as, lt-bits}
+use Rattle.bits.proofs.PatternOrder.{leb-as, lt-bits}
 
 -- ---- by sign and size
 

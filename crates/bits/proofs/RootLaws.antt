@@ -1,17 +1,15 @@
 -- The root that is computed meets the statement over whole numbers (`root-meets`), and nothing else does (`root-unique`).
 -- So whoever shows the statement of a pattern has shown that it is the root (`nearest-is-root`).
 use Prim.Native.Nat.{ℕ, zero, suc, _+_, _-_, _*_, _^_, _≤_, _<_}
-use native.Mathlib.Nat.{mul-le-mul, mul-le-mul-left, mul-le-mul-right, le-trans, le-of-lt, lt-of-lt-of-le, lt-trans, lt-irrefl, lt-of-le-of-lt, eq-or-lt-of-le, add-assoc, add-sub-cancel, two-pow-succ}
+use native.Mathlib.Nat.{mul-le-mul, mul-le-mul-left, mul-le-mul-right, le-trans, le-of-lt, lt-of-lt-of-le, lt-trans, lt-irrefl, eq-or-lt-of-le, add-assoc, add-sub-cancel, two-pow-succ}
 use native.Mathlib.Omega.{arith}
 use mathlib.Core.Path.{_≡_, refl, sym}
 use mathlib.Core.Logic.{inl, inr}
 use mathlib.Core.Bool.{Bool, true, false, not, cond}
 use lib.Arith.{le→nltb}
-use lib.Dec.{T, ltb, eqb, ltb→lt, nltb→le, lit≤}
-use lib.Ieee.{nan, binary32, nanBits, ofBits, toBits}
+use lib.Dec.{T, ltb, ltb→lt, nltb→le, lit≤}
 use borrow.Author.Tests.{lt-ltb, le-ltb, ne-eqb}
-use Rattle.bits.specs.Root.{steps, halfway, fourfold, largest, finiteRoot, rootBits, root, NearestRoot}
-use Rattle.bits.proofs.NotANumber.{no-nan-pattern}
+use Rattle.bits.specs.Root.{steps, halfway, fourfold, largest, finiteRoot, rootBits, NearestRoot}
 use Rattle.bits.proofs.RootSteps.{lt-or-le, steps-rise, halfway-rise}
 use Rattle.bits.proofs.RootTies.{no-tie}
 
@@ -93,15 +91,6 @@ pub root-of-zero : finiteRoot 0 ≡ 0
 unfolding finiteRoot
 root-of-zero = refl
 
--- the root of a finite number is finite
-pub root-finite : (b : ℕ) → b < 0x7f80_0000 → finiteRoot b < 0x7f80_0000
-root-finite b h = elim (lt-or-le (finiteRoot b) 0x7f80_0000) [
-  | inl l ↦ l
-  | inr l ↦
-      let g = finiteRoot b in
-      absurd (lt-irrefl (fourfold b) (lt-of-le-of-lt (top b (g - 1) h (omega arith)) (root-meets b h .above (omega arith))))
-]
-
 -- ---- the root of any pattern
 
 pub rootBits-finite : (b : ℕ) → b < 0x7f80_0000 → rootBits b ≡ finiteRoot b
@@ -111,20 +100,3 @@ rootBits-finite b h = rw (lt-ltb b 0x7f80_0000 h)
 pub rootBits-other : (b : ℕ) → 0x7f80_0000 ≤ b → (b ≡ 0x7f80_0000 → ⊥) → (b ≡ 0x8000_0000 → ⊥) → rootBits b ≡ 0x7fc0_0000
 unfolding rootBits
 rootBits-other b h i z = rw (le-ltb b 0x7f80_0000 h, ne-eqb b 0x7f80_0000 i, ne-eqb b 0x8000_0000 z)
-
--- 7fc00000 is the one NaN among the roots
-pub root-no-nan : (b : ℕ) → (rootBits b ≡ 0x7fc0_0000 → ⊥) → T (not (nanBits binary32 (rootBits b)))
-unfolding rootBits
-root-no-nan b =
-    go (ltb b 0x7f80_0000) (eqb b 0x7f80_0000) (eqb b 0x8000_0000) (finiteRoot b) (λ t. root-finite b (ltb→lt b 0x7f80_0000 t))
-  where
-    go : (s t u : Bool) (g : ℕ) → (T s → g < 0x7f80_0000) → (cond s g (cond t 0x7f80_0000 (cond u 0x8000_0000 0x7fc0_0000)) ≡ 0x7fc0_0000 → ⊥)
-        → T (not (nanBits binary32 (cond s g (cond t 0x7f80_0000 (cond u 0x8000_0000 0x7fc0_0000)))))
-    go true t u g h other = no-nan-pattern g (h tt)
-    go false true u g h other = unfold nanBits in tt
-    go false false true g h other = unfold nanBits in tt
-    go false false false g h other = absurd (other refl)
-
-pub root-of-nan : root nan ≡ nan
-unfolding root ofBits toBits
-root-of-nan = refl

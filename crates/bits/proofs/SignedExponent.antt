@@ -12,7 +12,7 @@ use borrow.Author.Tests.{leb-true, leb-false, ltb-true, ltb-false, lt-ltb, le-lt
 use mir.Syntax.{w64}
 use mir.Val.{SFits, toZ, ofZ}
 use mir.ValLaws.{toZ-pos, toZ-ofZ}
-use Rattle.bits.specs.Parts.{field, exponentFor}
+use Rattle.bits.specs.Contracts.{field, exponentFor}
 
 -- the exponent for a field x, by whether x is below 1023
 abbrev by : Bool → ℕ → ℤ

@@ -4,6 +4,7 @@ ghost use mathlib.Core.Path.{_≡_};
 pub mod cut;
 pub mod narrow;
 pub mod order;
+pub mod patterns;
 pub mod root;
 
 // An f32 as an f64, which holds every one. A NaN gives a NaN.

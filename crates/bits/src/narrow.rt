@@ -1,9 +1,11 @@
 // f64 to f32, on patterns and on floats: nearest, ties to even, subnormals, overflow to infinity; any NaN to 7fc00000.
+use crate::patterns::bits_of_f64;
+use crate::patterns::f32_of;
 ghost use mathlib.Core.Path.{_≡_};
 ghost use mathlib.Core.Logic.{_⊎_};
 ghost use Prim.Native.Nat.{_+_, _-_, _*_, _/_, _^_, _≤_, _<_};
 ghost use lib.Ieee.Nearest.{closest};
-ghost use Rattle.bits.specs.Parts.{field, exponentFor};
+ghost use Rattle.bits.specs.Contracts.{field, exponentFor};
 ghost use Rattle.bits.specs.Narrow.{narrowed, narrowBits};
 
 // The sign of an f64, in its place in an f32.
@@ -83,8 +85,5 @@ pub fn narrow_bits(b: u64) -> u32
 pub fn narrow(x: f64) -> f32
     ensures { λ r. ⌜ r ≡ narrowed x ⌝ }
 {
-    if x != x {
-        return 0.0 / 0.0;
-    }
-    f32::from_bits(narrow_bits(f64::to_bits(x)))
+    f32_of(narrow_bits(bits_of_f64(x)))
 }

@@ -1,4 +1,5 @@
 // The order of costs: a float's bits as a signed key whose order is IEEE totalOrder.
+use crate::patterns::bits_of_f64;
 ghost use mathlib.Core.Path.{_≡_};
 ghost use Rattle.bits.specs.Order.{orderKey, floatKey};
 
@@ -17,8 +18,5 @@ pub fn order_bits(b: u64) -> i64
 pub fn order(x: f64) -> i64
     ensures { λ r. ⌜ r ≡ floatKey x ⌝ }
 {
-    if x != x {
-        return order_bits(0x7ff8_0000_0000_0000);
-    }
-    order_bits(f64::to_bits(x))
+    order_bits(bits_of_f64(x))
 }

@@ -1,5 +1,7 @@
 // The square root of an f32, on bit patterns and on floats: the nearest one, as specs/Root.antt states it over whole numbers.
 // The guess is float arithmetic of which nothing is proved; its check is arithmetic of whole numbers, and is the statement.
+use crate::patterns::bits_of_f32;
+use crate::patterns::f32_of;
 ghost use mathlib.Core.Path.{_≡_};
 ghost use Prim.Native.Nat.{ℕ, _+_, _*_, _^_, _≤_, _<_};
 ghost use lib.Dec.{T};
@@ -120,16 +122,9 @@ pub fn root_bits(b: u32) -> u32
     0x7fc0_0000
 }
 
-// The root of any float. The bits of a NaN are neither read nor made: one is tested for, and made as zero over zero.
+// The root of any float.
 pub fn root(x: f32) -> f32
     ensures { λ r. ⌜ r ≡ rooted x ⌝ }
 {
-    if x != x {
-        return 0.0 / 0.0;
-    }
-    let r = root_bits(f32::to_bits(x));
-    if r == 0x7fc0_0000 {
-        return 0.0 / 0.0;
-    }
-    f32::from_bits(r)
+    f32_of(root_bits(bits_of_f32(x)))
 }

@@ -51,13 +51,13 @@ eight-or-nine {v} {fs} {n} {p} l = either-of (outside v (getD fs p noFace)) (l .
 pub first-bad-coordinate : (i : Input) {p : ℕ} → verdictOf i ≡ Refused 7 p → FirstAt (badCoordinate (i .bound)) nan (i .points) p
 first-bad-coordinate i e =
     ⊎-elim (λ s. s .1) (λ l. absurd (let h = eight-or-nine l in omega arith))
-    (contents-refused (i .points) (i .faces) (i .ratio) (i .bound) (passed-six i refl e .rest))
+    (contents-refused (i .points) (i .faces) (i .options .ratio) (i .bound) (passed-six i refl e .rest))
 
 -- 8 and 9 name the lowest bad face, 8 before 9
 pub lowest-bad-face : (i : Input) {n p : ℕ} → verdictOf i ≡ Refused n p → 8 ≤ n → LowestBad (pointsIn i) (facesOf (facesIn i) (i .faces)) n p
 lowest-bad-face i {n} e h =
     ⊎-elim (λ s. absurd (omega (arith, s .0))) (λ l. l)
-    (contents-refused (i .points) (i .faces) (i .ratio) (i .bound) (passed-six i (le-leb 7 n (omega arith)) e .rest))
+    (contents-refused (i .points) (i .faces) (i .options .ratio) (i .bound) (passed-six i (le-leb 7 n (omega arith)) e .rest))
 
 -- ---- every number and place
 
@@ -71,7 +71,7 @@ from-zero true m later {n} {p} a b after e =
     record { number-least = omega arith; number-most = omega arith; place-fits = omega arith }
 
 -- the numbers 7 to 9
-contents-in-table : (i : Input) {n p : ℕ} → large (pointsIn i) (facesIn i) ≡ false → contentsVerdict (i .points) (i .faces) (i .ratio) (i .bound) ≡ Refused n p → InTable n p
+contents-in-table : (i : Input) {n p : ℕ} → large (pointsIn i) (facesIn i) ≡ false → contentsVerdict (i .points) (i .faces) (i .options .ratio) (i .bound) ≡ Refused n p → InTable n p
 contents-in-table i small e =
     let limits = not-large (pointsIn i) (facesIn i) small in
     ⊎-elim
@@ -79,7 +79,7 @@ contents-in-table i small e =
     (λ l.
     let h = eight-or-nine l in
     record { number-least = omega arith; number-most = omega arith; place-fits = omega (arith, l .lowest .within, length-faces (facesIn i) (i .faces)) })
-    (contents-refused (i .points) (i .faces) (i .ratio) (i .bound) e)
+    (contents-refused (i .points) (i .faces) (i .options .ratio) (i .bound) e)
 
 -- a refusal's number is one of the table, and its place fits u32
 pub in-table : (i : Input) {n p : ℕ} → verdictOf i ≡ Refused n p → InTable n p
@@ -89,6 +89,6 @@ in-table i e =
     (λ _. from-zero (large (pointsIn i) (facesIn i)) 2 _ (omega arith) (omega arith)
     (λ small. from-zero (short (pointsIn i) (facesIn i) (i .rooms)) 3 _ (omega arith) (omega arith)
     (λ _. from-zero (empty (pointsIn i) (facesIn i)) 4 _ (omega arith) (omega arith)
-    (λ _. from-zero (badRatio (i .ratio)) 5 _ (omega arith) (omega arith)
-    (λ _. from-zero (badLimit (i .limit)) 6 _ (omega arith) (omega arith)
+    (λ _. from-zero (badRatio (i .options .ratio)) 5 _ (omega arith) (omega arith)
+    (λ _. from-zero (badLimit (i .options .limit)) 6 _ (omega arith) (omega arith)
     (λ _. contents-in-table i small)))))) e

@@ -14,7 +14,7 @@ use Rattle.walk.specs.declared.Face.{Face}
 use Rattle.lists.specs.Lists.{some, below, firstOf}
 use Rattle.walk.specs.Faces.{facesOf, faceAt}
 use Rattle.checks.specs.Facts.{FirstAt}
-use Rattle.lists.proofs.SumLaws.{length-below}
+use Rattle.lists.proofs.BelowLaws.{length-below}
 
 -- ---- the first that passes
 

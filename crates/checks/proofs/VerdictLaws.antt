@@ -31,9 +31,9 @@ pub record PassedSix (i : Input) (r : Verdict) : Type 0 where
   pub two : large (pointsIn i) (facesIn i) ≡ false
   pub three : short (pointsIn i) (facesIn i) (i .rooms) ≡ false
   pub four : empty (pointsIn i) (facesIn i) ≡ false
-  pub five : badRatio (i .ratio) ≡ false
-  pub six : badLimit (i .limit) ≡ false
-  pub rest : contentsVerdict (i .points) (i .faces) (i .ratio) (i .bound) ≡ r
+  pub five : badRatio (i .options .ratio) ≡ false
+  pub six : badLimit (i .options .limit) ≡ false
+  pub rest : contentsVerdict (i .points) (i .faces) (i .options .ratio) (i .bound) ≡ r
 
 -- a verdict that no number below 7 gives comes after those tests, and back
 pub passed-six : (i : Input) {r : Verdict} → late r ≡ true → verdictOf i ≡ r → PassedSix i r
@@ -43,8 +43,8 @@ passed-six i l e =
     let b = past late (large (pointsIn i) (facesIn i)) (Refused 2 0) _ refl l (a .1) in
     let c = past late (short (pointsIn i) (facesIn i) (i .rooms)) (Refused 3 0) _ refl l (b .1) in
     let d = past late (empty (pointsIn i) (facesIn i)) (Refused 4 0) _ refl l (c .1) in
-    let f = past late (badRatio (i .ratio)) (Refused 5 0) _ refl l (d .1) in
-    let g = past late (badLimit (i .limit)) (Refused 6 0) _ refl l (f .1) in
+    let f = past late (badRatio (i .options .ratio)) (Refused 5 0) _ refl l (d .1) in
+    let g = past late (badLimit (i .options .limit)) (Refused 6 0) _ refl l (f .1) in
     record { one = a .0; two = b .0; three = c .0; four = d .0; five = f .0; six = g .0; rest = g .1 }
 
 decided-late : (i : Input) {r : Verdict} → PassedSix i r → verdictOf i ≡ r
@@ -67,7 +67,7 @@ sized-of i p seven =
     let u32s = neither-of _ _ (f32s .0) in
     let outputs = neither-of _ _ (u32s .0) in
     let counts = neither-of _ _ (p .four) in
-    let ratio = and-true (le zeroFloat (i .ratio)) (le (i .ratio) oneFloat) (not-false _ (p .five)) in
+    let ratio = and-true (le zeroFloat (i .options .ratio)) (le (i .options .ratio) oneFloat) (not-false _ (p .five)) in
     record {
       points-by-three = by-three _ (lengths .0);
       faces-by-three = by-three _ (lengths .1);
@@ -87,7 +87,7 @@ sized-of i p seven =
     }
 
 -- and back, with what the lists give
-passed-of : (i : Input) {r : Verdict} → Sized i → contentsVerdict (i .points) (i .faces) (i .ratio) (i .bound) ≡ r → PassedSix i r
+passed-of : (i : Input) {r : Verdict} → Sized i → contentsVerdict (i .points) (i .faces) (i .options .ratio) (i .bound) ≡ r → PassedSix i r
 passed-of i s e =
     record {
       one = neither (even-threes _ (s .points-by-three)) (even-threes _ (s .faces-by-three));
@@ -101,7 +101,7 @@ passed-of i s e =
           (le-ltb _ _ (s .room-f32s)))
           (le-ltb _ _ (s .room-f64s));
       four = neither (not-zero _ (s .points-some)) (not-zero _ (s .faces-some));
-      five = rw (both (is-true (le zeroFloat (i .ratio)) (s .ratio-least)) (is-true (le (i .ratio) oneFloat) (s .ratio-most)));
+      five = rw (both (is-true (le zeroFloat (i .options .ratio)) (s .ratio-least)) (is-true (le (i .options .ratio) oneFloat) (s .ratio-most)));
       six = s .limit-good;
       rest = e;
     }
@@ -118,7 +118,7 @@ unfolding contentsVerdict
 admitted i e =
     let p = passed-six i refl e in
     let seven = past admits (some (badCoordinate (i .bound)) (i .points)) (Refused 7 _) _ refl refl (p .rest) in
-    let above = past admits (eq (i .ratio) zeroFloat) Copied _ refl refl (seven .1) in
+    let above = past admits (eq (i .options .ratio) zeroFloat) Copied _ refl refl (seven .1) in
     record { sized = sized-of i p (seven .0); ratio-above = above .0; faces-proper = faces-proper-of (pointsIn i) 0 (facesOf (facesIn i) (i .faces)) (above .1) }
 
 -- an admissible input is admitted
@@ -144,7 +144,7 @@ copied i e =
     let seven = past copies (some (badCoordinate (i .bound)) (i .points)) (Refused 7 _) _ refl refl (p .rest) in
     record {
       sized = sized-of i p (seven .0);
-      ratio-zero = zero-of (eq (i .ratio) zeroFloat) _ (faces-not-copied (pointsIn i) 0 (facesOf (facesIn i) (i .faces))) (seven .1);
+      ratio-zero = zero-of (eq (i .options .ratio) zeroFloat) _ (faces-not-copied (pointsIn i) 0 (facesOf (facesIn i) (i .faces))) (seven .1);
     }
 
 -- a copiable input is copied

@@ -6,6 +6,7 @@ ghost use lib.ListN.{length};
 ghost use Rattle.walk.specs.Faces.{facesOf, faceAt};
 ghost use Rattle.meaning.specs.Answers.{uneven, large, short, empty, badRatio, badLimit, badCoordinate, outside, doubled, faceVerdict, contentsVerdict, verdictOf};
 ghost use Rattle.lists.specs.Lists.{firstOf};
+use meaning::Options;
 use meaning::Rooms;
 use meaning::Verdict;
 use placement::Limit;
@@ -149,14 +150,15 @@ pub fn verdict_of(
     points: &[f32],
     faces: &[u32],
     rooms: Rooms,
-    ratio: f32,
-    limit: Limit,
+    options: Options,
     bound: f32,
 ) -> Verdict
-    ensures { λ r. ⌜ r ≡ verdictOf (record { points = now (points .entry); faces = now (faces .entry); rooms = rooms; ratio = ratio; limit = limit; bound = bound }) ⌝ }
+    ensures { λ r. ⌜ r ≡ verdictOf (record { points = now (points .entry); faces = now (faces .entry); rooms = rooms; options = options; bound = bound }) ⌝ }
 {
     let v = points.len() / 3;
     let f = faces.len() / 3;
+    let ratio = options.ratio;
+    let limit = options.limit;
     if is_uneven(points.len(), faces.len()) {
         Verdict::Refused(1, 0)
     } else if is_large(v, f) {

@@ -40,6 +40,21 @@ corners-apart v w k c d whole at-c at-d =
     (three (λ d. 3 * k + 2 ≢ d → corner w (3 * k + 2) ≢ corner w d) k d at-d
     (λ n e. q .c-a e) (λ n e. q .b-c (sym e)) (λ n e. n refl))
 
+-- the corners of a slot, read and tried one after another
+module _ (w : List ℕ) (k x : ℕ) {a : ℕ} (first : a ≡ corner w (3 * k)) where
+  pub corner-first : a ≡ x → 3 * k ≡ cornerOf w k x
+  unfolding cornerOf
+  corner-first e = rw (← first, eq-eqb a x e)
+
+  module _ (apart : a ≢ x) {b : ℕ} (second : b ≡ corner w (3 * k + 1)) where
+    pub corner-second : b ≡ x → 3 * k + 1 ≡ cornerOf w k x
+    unfolding cornerOf
+    corner-second e = rw (← first, ← second, ne-eqb a x apart, eq-eqb b x e)
+
+    pub corner-third : b ≢ x → 3 * k + 2 ≡ cornerOf w k x
+    unfolding cornerOf
+    corner-third e = rw (← first, ← second, ne-eqb a x apart, ne-eqb b x e)
+
 -- the corner that is found is one of the slot's
 pub corner-slot : (w : List ℕ) (k x : ℕ) → cornerOf w k x / 3 ≡ k
 unfolding cornerOf

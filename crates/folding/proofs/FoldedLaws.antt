@@ -3,36 +3,37 @@
 use Prim.Native.Nat.{ℕ, _+_, _*_, _/_, _≤_, _<_}
 use native.Mathlib.Omega.{arith}
 use mathlib.Core.Path.{_≡_, refl, sym, ap, ap₂, _∙_}
-use mathlib.Core.Logic.{_≢_}
+use mathlib.Core.Logic.{_≢_, inl}
 use mathlib.Core.List.{List, [], _∷_, map}
 use mathlib.Core.Bool.{Bool, true, false, not, _&&_, _||_, cond, and-false}
 use lib.Dec.{ltb, eqb}
-use lib.ListN.{set}
+use lib.ListN.{length, set}
 use borrow.Author.Tests.{eqb-true, ne-eqb, lt-ltb, ltb-true, le-ltb}
 use Rattle.walk.specs.declared.Face.{Face}
 use Rattle.lists.specs.Lists.{count, those, every, some, below, stretch}
 use Rattle.walk.specs.Faces.{holds, both, renamed, renamedFace, proper, faceAt}
 use Rattle.walk.specs.Fold.{foldedFaces}
 use Rattle.lists.proofs.TestLaws.{by-test, left-of, right-of, flag-le}
-use Rattle.lists.proofs.ListLaws.{every-head, every-tail}
-use Rattle.lists.proofs.SumLaws.{every-from, every-implies, some-count, length-below, getD-below, sum-pick, sum-same}
+use Rattle.lists.proofs.EveryLaws.{every-head, every-tail, every-from, every-implies, some-count}
+use Rattle.lists.proofs.BelowLaws.{length-below, getD-below, sum-pick, sum-same-below as sum-same-below}
+use Rattle.lists.proofs.SumLaws.{sum-same}
 use Rattle.walk.proofs.FaceLaws.{renamed-proper}
-use Rattle.memory.specs.Memory.{corner, first, lives, liveFaces}
+use Rattle.memory.specs.Memory.{corner, first, lives, liveFaces, Room, liveAt}
 use Rattle.lists.specs.Frames.{But}
 use Rattle.mesh.specs.Contracts.Chains.{Chains, Tidy}
 use Rattle.mesh.specs.Contracts.Around.{Gathered}
-use Rattle.memory.specs.Memory.{liveAt}
 use Rattle.lists.proofs.FrameLaws.{but-then, but-set, but-widen}
 use Rattle.mesh.proofs.ChainLaws.{chains-keep, chains-listed, chains-drop}
 use Rattle.lists.proofs.CondLaws.{cond-swap, cond-and}
-use Rattle.lists.proofs.BelowSums.{sum-same-below as sum-same-below}
 use Rattle.mesh.proofs.AroundLaws.{gathered-sums}
+use Rattle.ring.proofs.SlotLaws.{slots-but}
 use Rattle.folding.specs.Contracts.Steps.{inTurn, killed, relisted}
 use Rattle.folding.specs.Contracts.Folds.{FacesFolded}
-use Rattle.folding.proofs.TurnLaws.{turn-but, slots-but}
+use Rattle.folding.proofs.TurnLaws.{turn-but}
 use Rattle.folding.proofs.KillLaws.{killed-but, kill-lives}
 use Rattle.folding.proofs.CornerLaws.{corner-same, corner-found}
 use Rattle.folding.proofs.RelistLaws.{Relisted, Once, picks, relisted-all, relisted-as}
+use Rattle.memory.specs.Layout.{firstsFrom, kindsFrom, livesFrom, marksFrom, nextsFrom}
 
 -- ---- a list of gathered faces
 
@@ -90,7 +91,7 @@ below-inside n =
 
 -- No corner at keep or remove is listed; the others are as they were.
 pub record Dropped (v f : ℕ) (w : List ℕ) (keep remove : ℕ) (listed : ℕ → Bool) (w' : List ℕ) : Type 0 where
-  pub but : But 0 (7 * f + v) w w'
+  pub but : But 0 (kindsFrom v f) w w'
   pub lives-on : (k : ℕ) → k < f → lives f w' k ≡ (lives f w k && not (both keep remove (faceAt w k)))
   pub corners : (c : ℕ) → c < 3 * f → corner w' c ≡ corner w c
   pub chains : Chains v f w' (λ c. (listed c && not (eqb (corner w c) keep)) && not (eqb (corner w c) remove))
@@ -102,20 +103,20 @@ kill-both false a b = refl
 
 pub dropped : {v f : ℕ} {w : List ℕ} {keep remove near n : ℕ} {w₁ w₂ w₃ : List ℕ} (t : Tidy v f w) → keep < v → remove < v →
     Gathered v f w keep near n → w₁ ≡ inTurn (killed f remove) (stretch w near n) w →
-    w₂ ≡ set w₁ (7 * f + keep) 0 → w₃ ≡ set w₂ (7 * f + remove) 0 → Dropped v f w keep remove (t .listed) w₃
+    w₂ ≡ set w₁ (firstsFrom f + keep) 0 → w₃ ≡ set w₂ (firstsFrom f + remove) 0 → Dropped v f w keep remove (t .listed) w₃
 dropped {v} {f} {w} {keep} {remove} {near} {n} {w₁} {w₂} {w₃} t keep-v remove-v g killing first-drop then-drop =
     let room = t .room in
     let inside = gathered-inside g in
     let but₁ : But (3 * f) (4 * f) w w₁ = rw killing (turn-but (killed f remove) f (killed-but f remove) (stretch w near n) w inside) in
-    let but₂ : But (7 * f) (7 * f + v) w₁ w₂ = rw first-drop (but-set (7 * f) (7 * f + v) w₁ (7 * f + keep) 0 (omega arith) (omega arith)) in
-    let but₃ : But (7 * f) (7 * f + v) w₂ w₃ = rw then-drop (but-set (7 * f) (7 * f + v) w₂ (7 * f + remove) 0 (omega arith) (omega arith)) in
+    let but₂ : But (7 * f) (kindsFrom v f) w₁ w₂ = rw first-drop (but-set (7 * f) (kindsFrom v f) w₁ (firstsFrom f + keep) 0 (omega arith) (omega arith)) in
+    let but₃ : But (7 * f) (kindsFrom v f) w₂ w₃ = rw then-drop (but-set (7 * f) (kindsFrom v f) w₂ (firstsFrom f + remove) 0 (omega arith) (omega arith)) in
     let long₁ = but₁ .same-length in
     let long₂ = but₂ .same-length in
     let after : (k : ℕ) → k < f → lives f w₁ k ≡ (lives f w k && not (some (λ j. eqb j k) (stretch w near n) && holds remove (faceAt w k))) =
     λ k l. rw killing (kill-lives f remove (stretch w near n) w inside (omega arith) k l) in
     let chains₁ : Chains v f w₁ (t .listed) =
     chains-keep v f w w₁ (t .listed) (t .listed)
-    (λ c l. but₁ .over (4 * f + c) (omega arith)) (λ x l. but₁ .over (7 * f + x) (omega arith)) (λ c l x. rw (but₁ .under c (omega arith)))
+    (λ c l. but₁ .over (nextsFrom f + c) (omega arith)) (λ x l. but₁ .over (firstsFrom f + x) (omega arith)) (λ c l x. rw (but₁ .under c (omega arith)))
     (t .chains) in
     let chains₂ : Chains v f w₂ (λ c. t .listed c && not (eqb (corner w₁ c) keep)) =
     rw first-drop (chains-drop v f w₁ (t .listed) keep keep-v (omega arith) chains₁) in
@@ -124,7 +125,7 @@ dropped {v} {f} {w} {keep} {remove} {near} {n} {w₁} {w₂} {w₃} t keep-v rem
     record {
       but = but-then (but-widen (omega arith) (omega arith) but₁) (but-then (but-widen (omega arith) (omega arith) but₂) (but-widen (omega arith) (omega arith) but₃));
       lives-on = λ k l.
-          ap (λ (i : ℕ). eqb i 1) (but₃ .under (3 * f + k) (omega arith) ∙ but₂ .under (3 * f + k) (omega arith))
+          ap (λ (i : ℕ). eqb i 1) (but₃ .under (livesFrom f + k) (omega arith) ∙ but₂ .under (livesFrom f + k) (omega arith))
           ∙ after k l
           ∙ rw (gathered-is g k l) (kill-both (lives f w k) (holds keep (faceAt w k)) (holds remove (faceAt w k)));
       corners = λ c l. but₃ .under c (omega arith) ∙ but₂ .under c (omega arith) ∙ but₁ .under c (omega arith);
@@ -149,18 +150,22 @@ picks-are {v} {f} {w} {x} {base} {n} u t g corners alive c l =
     rw (gathered-is g (c / 3) (omega arith), e, lived, same) found)
     (λ e. rw e (and-false (some (λ k. eqb k (c / 3)) (stretch w base n))))
 
--- the list stays while only faces and links change
-pub inside-still : {v f hi : ℕ} {w u : List ℕ} {x base n : ℕ} → Gathered v f w x base n → But 0 hi w u → hi ≤ base →
-    every (λ k. ltb k f) (stretch u base n) ≡ true
-inside-still {v} {f} {hi} {w} {u} {x} {base} {n} g but above = rw (slots-but base n but above) (gathered-inside g)
+-- the list stays while only faces and links change, and has what listing it again asks
+pub may-relist : {v f : ℕ} {w u : List ℕ} {x base n new : ℕ} → Room v f w → new < v → Gathered v f w x base n → But 0 (kindsFrom v f) w u →
+    kindsFrom v f ≤ base → base + f ≤ length w →
+    (every (λ k. ltb k f) (stretch u base n) ≡ true) × ((firstsFrom f + new < base) × (base + n ≤ length u) × (f ≤ 131072))
+may-relist {base = base} {n} room new-v g but above within = (
+  rw (slots-but but base n (inl above)) (gathered-inside g),
+  (omega arith, omega (arith, but .same-length, g .few), room .faces-few),
+)
 
 -- so these are the corners that are listed again
-pub again : {v f new : ℕ} {w u u' : List ℕ} {x base n : ℕ} → Tidy v f w → new < v → Gathered v f w x base n → But 0 (7 * f + v) w u → 7 * f + v ≤ base →
+pub again : {v f new : ℕ} {w u u' : List ℕ} {x base n : ℕ} → Tidy v f w → new < v → Gathered v f w x base n → But 0 (kindsFrom v f) w u → kindsFrom v f ≤ base →
     ((c : ℕ) → c < 3 * f → corner u c ≡ corner w c) → ((k : ℕ) → k < f → lives f u k ≡ true → lives f w k ≡ true) →
     u' ≡ inTurn (relisted f x new) (stretch u base n) u → Relisted v f new (λ c. lives f u (c / 3) && eqb (corner w c) x) u u'
 again {v} {f} {new} {w} {u} {u'} {x} {base} {n} t new-v g but above corners alive e =
     relisted-as (picks-are u t g corners alive)
-    (rw (e, slots-but base n but above)
+    (rw (e, slots-but but base n (inl above))
     (relisted-all new-v x (stretch w base n) u (gathered-inside g) (gathered-once g) (omega (arith, but .same-length, t .room))))
 
 -- a corner that is put where it is
@@ -174,12 +179,12 @@ module _ {v f : ℕ} {w : List ℕ} {keep remove : ℕ} {w₃ : List ℕ} (t : T
   lived-then : (k : ℕ) → k < f → lives f w₃ k ≡ true → lives f w k ≡ true
   lived-then k l e = left-of (lives f w k) (not (both keep remove (faceAt w k))) (sym (d .lives-on k l) ∙ e)
 
-  pub near-again : {near n : ℕ} {w₄ : List ℕ} → Gathered v f w keep near n → 7 * f + v ≤ near →
+  pub near-again : {near n : ℕ} {w₄ : List ℕ} → Gathered v f w keep near n → kindsFrom v f ≤ near →
       w₄ ≡ inTurn (relisted f keep keep) (stretch w₃ near n) w₃ →
       Relisted v f keep (λ c. lives f w₃ (c / 3) && eqb (corner w c) keep) w₃ w₄
   near-again g above = again t keep-v g (d .but) above (d .corners) lived-then
 
-  pub far-again : {far m : ℕ} {w₄ w₅ : List ℕ} → Gathered v f w remove far m → 7 * f + v ≤ far →
+  pub far-again : {far m : ℕ} {w₄ w₅ : List ℕ} → Gathered v f w remove far m → kindsFrom v f ≤ far →
       Relisted v f keep (λ c. lives f w₃ (c / 3) && eqb (corner w c) keep) w₃ w₄ →
       w₅ ≡ inTurn (relisted f remove keep) (stretch w₄ far m) w₄ →
       Relisted v f keep (λ c. lives f w₃ (c / 3) && eqb (corner w c) remove) w₄ w₅
@@ -263,7 +268,7 @@ module _ {v f : ℕ} {w : List ℕ} {keep remove : ℕ} {w₃ w₄ w₅ : List �
       gone ≡ count (λ k. holds remove (faceAt w k)) (stretch w near-at n) → FacesFolded v f w keep remove w₅ gone
   unfolding liveFaces foldedFaces
   folded {near-at} {n} {gone} g counting =
-      let but : But 0 (7 * f + v) w w₅ = but-then (d .but) (but-then (near .but) (far .but)) in
+      let but : But 0 (kindsFrom v f) w w₅ = but-then (d .but) (but-then (near .but) (far .but)) in
       record {
         but = but;
         tidy = record {
@@ -277,7 +282,7 @@ module _ {v f : ℕ} {w : List ℕ} {keep remove : ℕ} {w₃ w₄ w₅ : List �
           live-listed = λ c l e.
               rw (sym (still (c / 3) (omega arith)) ∙ e, t .live-listed c l (lived (c / 3) (omega arith) e))
               (listed-again (eqb (corner w c) keep) (eqb (corner w c) remove));
-          unmarked = λ x l. but .over (7 * f + 2 * v + x) (omega arith) ∙ t .unmarked x l;
+          unmarked = λ x l. but .over (marksFrom v f + x) (omega arith) ∙ t .unmarked x l;
         };
         same-faces =
             kept-changed (λ p. not (both keep remove p)) (renamedFace keep remove) (lives f w) (lives f w₅) (λ k. ltb k f) (faceAt w) (faceAt w₅)

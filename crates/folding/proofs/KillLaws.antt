@@ -1,27 +1,24 @@
--- Killing the faces of a list of slots that hold a point: which cells change, which faces live on, how many were killed.
+-- Killing the faces of a list of slots that hold a point: which cells change, which faces live on.
 -- Assumes nothing.
-use Prim.Native.Nat.{ℕ, suc, _+_, _*_, _≤_, _<_}
-use native.Mathlib.Nat.{le-antisymm}
-use native.Mathlib.Numerals.{add-one}
+use Prim.Native.Nat.{ℕ, _+_, _*_, _≤_, _<_}
 use native.Mathlib.Omega.{arith}
-use mathlib.Core.Path.{_≡_, refl, sym, ap, ap₂, subst, _∙_}
+use mathlib.Core.Path.{_≡_, refl, sym, ap₂, _∙_}
 use mathlib.Core.List.{List, [], _∷_}
-use mathlib.Core.Bool.{Bool, true, false, not, _&&_, _||_, cond, and-true, and-false}
+use mathlib.Core.Bool.{Bool, true, false, not, _&&_, _||_, and-true, and-false}
 use lib.Dec.{ltb, eqb}
-use lib.ListN.{length, getD}
+use lib.ListN.{length}
 use lib.Seq.{getD-set-same, getD-set-other}
 use borrow.Author.Tests.{ltb-true, eqb-true, eqb-false}
 use Rattle.walk.specs.declared.Face.{Face}
-use Rattle.lists.specs.Lists.{sum, count, every, some, below, stretch}
+use Rattle.lists.specs.Lists.{every, some}
 use Rattle.walk.specs.Faces.{holds, faceAt}
 use Rattle.lists.proofs.TestLaws.{by-test}
-use Rattle.lists.proofs.ListLaws.{every-head, every-tail}
+use Rattle.lists.proofs.EveryLaws.{every-head, every-tail}
 use Rattle.memory.specs.Memory.{lives}
 use Rattle.lists.specs.Frames.{But}
-use Rattle.lists.proofs.SumLaws.{sum-below}
-use Rattle.mesh.proofs.AroundLaws.{sum-slots}
 use Rattle.lists.proofs.FrameLaws.{but-refl, but-set}
 use Rattle.folding.specs.Contracts.Steps.{inTurn, killed}
+use Rattle.memory.specs.Layout.{livesFrom}
 
 -- the face in a slot, where only flags change
 pub face-flags : {f hi : ℕ} {w w' : List ℕ} → But (3 * f) hi w w' → (k : ℕ) → k < f → faceAt w' k ≡ faceAt w k
@@ -42,7 +39,7 @@ module _ (f x : ℕ) where
   unfolding killed
   killed-but k w l =
       by-test (holds x (faceAt w k))
-      (λ e. rw e (but-set (3 * f) (4 * f) w (3 * f + k) 0 (omega arith) (omega arith)))
+      (λ e. rw e (but-set (3 * f) (4 * f) w (livesFrom f + k) 0 (omega arith) (omega arith)))
       (λ e. rw e (but-refl (3 * f) (4 * f) w))
 
   -- a face lives on if it isn't the one, or doesn't hold the point
@@ -54,12 +51,12 @@ module _ (f x : ℕ) where
       (λ e.
       let same : k ≡ j = eqb-true k j e in
       by-test (holds x (faceAt w j))
-      (λ h. rw (e, same, h, getD-set-same w (3 * f + j) 0 0 (omega arith)) (sym (and-false (lives f w j))))
+      (λ h. rw (e, same, h, getD-set-same w (livesFrom f + j) 0 0 (omega arith)) (sym (and-false (lives f w j))))
       (λ h. rw (e, same, h) (sym (and-true (lives f w j)))))
       (λ e.
       let apart = eqb-false k j e in
       by-test (holds x (faceAt w k))
-      (λ h. rw (e, h, getD-set-other w (3 * f + k) (3 * f + j) 0 0 (omega arith)) (sym (and-true (lives f w j))))
+      (λ h. rw (e, h, getD-set-other w (livesFrom f + k) (livesFrom f + j) 0 0 (omega arith)) (sym (and-true (lives f w j))))
       (λ h. rw (e, h) (sym (and-true (lives f w j)))))
 
   -- over a list: those of the list that hold the point don't
@@ -73,25 +70,3 @@ module _ (f x : ℕ) where
       kill-lives ks (killed f x k w) (every-tail (λ i. ltb i f) k ks all) (omega arith) j l
       ∙ ap₂ (λ (b : Bool) (p : Face). b && not (some (λ i. eqb i j) ks && holds x p)) (killed-lives k w here long j) (face-flags but j l)
       ∙ two-kills (lives f w j) (eqb k j) (some (λ i. eqb i j) ks) (holds x (faceAt w j))
-
-  -- one more of the list is counted
-  pub kill-count : {w₀ w : List ℕ} {gone r : ℕ} (list i : ℕ) → But (3 * f) (4 * f) w₀ w → getD w (list + i) 0 ≡ getD w₀ (list + i) 0 →
-      getD w (list + i) 0 < f → gone ≡ count (λ k. holds x (faceAt w₀ k)) (stretch w₀ list i) →
-      r ≡ cond (holds x (faceAt w (getD w (list + i) 0))) 1 0 →
-      gone + r ≡ count (λ k. holds x (faceAt w₀ k)) (stretch w₀ list (i + 1))
-  kill-count {w₀} {w} {gone} {r} list i but slot inside counted one =
-      let g : ℕ → ℕ = λ k. cond (holds x (faceAt w₀ k)) 1 0 in
-      let here : r ≡ g (getD w₀ (list + i) 0) =
-      one ∙ ap (λ (p : Face). cond (holds x p) 1 0) (face-flags but (getD w (list + i) 0) inside) ∙ ap g slot in
-      rw add-one
-      (omega (arith, sum-slots g w₀ list i, sum-slots g w₀ list (suc i), sum-below (λ j. g (getD w₀ (list + j) 0)) i))
-
-  -- none of the list is counted, and all are
-  pub kill-none : (w : List ℕ) (list : ℕ) → 0 ≡ count (λ k. holds x (faceAt w k)) (stretch w list 0)
-  unfolding sum below
-  kill-none w list = refl
-
-  pub kill-counted : (w : List ℕ) (list : ℕ) {i n gone : ℕ} → i ≤ n → n ≤ i →
-      gone ≡ count (λ k. holds x (faceAt w k)) (stretch w list i) → gone ≡ count (λ k. holds x (faceAt w k)) (stretch w list n)
-  kill-counted w list {i} {n} {gone} most least =
-      subst (λ (j : ℕ). gone ≡ count (λ k. holds x (faceAt w k)) (stretch w list j)) (le-antisymm most least)

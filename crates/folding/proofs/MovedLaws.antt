@@ -18,9 +18,10 @@ use Rattle.memory.specs.Memory.{kind}
 use Rattle.memory.specs.Points.{quadricAt, vertexAt, withPoint, withQuadric, meshOf}
 use Rattle.meaning.specs.Arithmetic.{rulesOf, mergedVertex}
 use Rattle.memory.proofs.PointLaws.{point-length, point-rest, quadric-length, quadric-rest}
-use Rattle.lists.proofs.EachLaws.{each-same}
+use Rattle.lists.proofs.BelowLaws.{each-same}
 use Rattle.memory.proofs.MeshLaws.{mesh-of-parts, mesh-point, mesh-moved}
 use Rattle.folding.specs.Contracts.Folds.{FacesFolded, MeshFolded}
+use Rattle.memory.specs.Layout.{kindsFrom}
 
 module _ {v f keep remove gone : ℕ} {w w' : List ℕ} (p q : List Float) (keep-v : keep < v) (remove-v : remove < v)
     (p-long : 3 * v ≤ length p) (q-long : 10 * v ≤ length q) (h : FacesFolded v f w keep remove w' gone)
@@ -43,7 +44,7 @@ module _ {v f keep remove gone : ℕ} {w w' : List ℕ} (p q : List Float) (keep
         rw (move, add)
         (mesh-of-parts _ _ _ _
         (each-same (vertexAt v f w (withPoint p keep place) (withQuadric q keep (sum (quadricAt q keep) (quadricAt q remove)))) _ v
-        (λ x l. rw (h .but .over (7 * f + v + x) (omega arith)))
+        (λ x l. rw (h .but .over (kindsFrom v f + x) (omega arith)))
         ∙ mesh-moved v f w p q keep place (sum (quadricAt q keep) (quadricAt q remove)) keep-v p-long q-long
         ∙ ap (set (map (vertexAt v f w p q) (below v)) keep)
         (merged ∙ sym (ap₂ (mergedVertex bound) (mesh-point v f w p q keep _ keep-v) (mesh-point v f w p q remove _ remove-v))))

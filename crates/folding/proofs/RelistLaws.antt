@@ -11,8 +11,7 @@ use lib.Seq.{getD-set-same, getD-set-other}
 use borrow.Author.Tests.{ltb-true, le-ltb, eqb-true, eqb-false, eq-eqb, ne-eqb}
 use Rattle.lists.specs.Lists.{sum, count, every, some}
 use Rattle.lists.proofs.TestLaws.{by-test, clash, false-of, left-of, right-of}
-use Rattle.lists.proofs.ListLaws.{every-head, every-tail}
-use Rattle.lists.proofs.SumLaws.{some-count}
+use Rattle.lists.proofs.EveryLaws.{every-head, every-tail, some-count}
 use Rattle.memory.specs.Memory.{corner, first, lives}
 use Rattle.lists.specs.Frames.{But}
 use Rattle.mesh.specs.Contracts.Chains.{Chains}
@@ -20,10 +19,11 @@ use Rattle.lists.proofs.FrameLaws.{but-refl, but-then, but-set}
 use Rattle.mesh.proofs.ChainLaws.{chains-listed, chains-rename, chains-push}
 use Rattle.folding.specs.Contracts.Steps.{inTurn, cornerOf, moved, relisted}
 use Rattle.folding.proofs.CornerLaws.{corner-slot, corner-same}
+use Rattle.memory.specs.Layout.{firstsFrom, kindsFrom, livesFrom, nextsFrom}
 
 -- The picked corners got the point new. If they were in no chain they are in its chain now, and the other chains are as they were.
 pub record Relisted (v f new : ℕ) (picked : ℕ → Bool) (w w' : List ℕ) : Type 0 where
-  pub but : But 0 (7 * f + v) w w'
+  pub but : But 0 (kindsFrom v f) w w'
   pub lives-same : (k : ℕ) → k < f → lives f w' k ≡ lives f w k
   pub corners : (c : ℕ) → c < 3 * f → corner w' c ≡ cond (picked c) new (corner w c)
   pub chains : (listed : ℕ → Bool) → ((c : ℕ) → c < 3 * f → picked c ≡ true → listed c ≡ false) →
@@ -39,7 +39,7 @@ module _ {v f new : ℕ} where
   -- none
   pub relisted-none : (w : List ℕ) → Relisted v f new (λ c. false) w w
   relisted-none w = record {
-    but = but-refl 0 (7 * f + v) w;
+    but = but-refl 0 (kindsFrom v f) w;
     lives-same = λ k l. refl;
     corners = λ c l. refl;
     chains = λ listed free. chains-listed v f w listed (λ c. listed c || false) (λ c l. sym (or-false (listed c)));
@@ -76,14 +76,14 @@ module _ {v f new : ℕ} where
 -- ---- one corner, and one slot
 
 -- the cells of one corner's move
-pub moved-but : {hi : ℕ} (f c new : ℕ) (w : List ℕ) → c < 3 * f → 7 * f + new < hi → But 0 hi w (moved f c new w)
+pub moved-but : {hi : ℕ} (f c new : ℕ) (w : List ℕ) → c < 3 * f → firstsFrom f + new < hi → But 0 hi w (moved f c new w)
 unfolding moved
 moved-but {hi} f c new w l above =
     but-then (but-set 0 hi w c new (omega arith) (omega arith))
-    (but-then (but-set 0 hi _ (4 * f + c) _ (omega arith) (omega arith))
-    (but-set 0 hi _ (7 * f + new) (c + 1) (omega arith) (omega arith)))
+    (but-then (but-set 0 hi _ (nextsFrom f + c) _ (omega arith) (omega arith))
+    (but-set 0 hi _ (firstsFrom f + new) (c + 1) (omega arith) (omega arith)))
 
-pub relisted-but : {hi : ℕ} (f old new k : ℕ) (w : List ℕ) → k < f → 7 * f + new < hi → But 0 hi w (relisted f old new k w)
+pub relisted-but : {hi : ℕ} (f old new k : ℕ) (w : List ℕ) → k < f → firstsFrom f + new < hi → But 0 hi w (relisted f old new k w)
 unfolding relisted
 relisted-but {hi} f old new k w l above =
     let slot = corner-slot w k old in
@@ -92,22 +92,22 @@ relisted-but {hi} f old new k w l above =
     (λ e. rw e (but-refl 0 hi w))
 
 module _ {v f new : ℕ} (new-below : new < v) where
-  relisted-one : (c : ℕ) (w : List ℕ) → c < 3 * f → 7 * f + v ≤ length w → Relisted v f new (λ d. eqb d c) w (moved f c new w)
+  relisted-one : (c : ℕ) (w : List ℕ) → c < 3 * f → kindsFrom v f ≤ length w → Relisted v f new (λ d. eqb d c) w (moved f c new w)
   unfolding moved
   relisted-one c w l long =
       let w₁ : List ℕ = set w c new in
-      let w₂ : List ℕ = set w₁ (4 * f + c) (first f w₁ new) in
+      let w₂ : List ℕ = set w₁ (nextsFrom f + c) (first f w₁ new) in
       record {
         but = moved-but f c new w l (omega arith);
         lives-same = λ k m.
             rw (
-              getD-set-other w₂ (7 * f + new) (3 * f + k) (c + 1) 0 (omega arith),
-              getD-set-other w₁ (4 * f + c) (3 * f + k) (first f w₁ new) 0 (omega arith),
-              getD-set-other w c (3 * f + k) new 0 (omega arith),
+              getD-set-other w₂ (firstsFrom f + new) (livesFrom f + k) (c + 1) 0 (omega arith),
+              getD-set-other w₁ (nextsFrom f + c) (livesFrom f + k) (first f w₁ new) 0 (omega arith),
+              getD-set-other w c (livesFrom f + k) new 0 (omega arith),
             );
         corners = λ d m.
-            getD-set-other w₂ (7 * f + new) d (c + 1) 0 (omega arith)
-            ∙ getD-set-other w₁ (4 * f + c) d (first f w₁ new) 0 (omega arith)
+            getD-set-other w₂ (firstsFrom f + new) d (c + 1) 0 (omega arith)
+            ∙ getD-set-other w₁ (nextsFrom f + c) d (first f w₁ new) 0 (omega arith)
             ∙ by-test (eqb d c)
             (λ e. rw (e, eqb-true d c e) (getD-set-same w c new 0 (omega arith)))
             (λ e. rw e (getD-set-other w c d new 0 (eqb-false d c e)));
@@ -117,7 +117,7 @@ module _ {v f new : ℕ} (new-below : new < v) where
             (chains-rename v f w listed c new l alone h);
       }
 
-  relisted-slot : (old k : ℕ) (w : List ℕ) → k < f → 7 * f + v ≤ length w →
+  relisted-slot : (old k : ℕ) (w : List ℕ) → k < f → kindsFrom v f ≤ length w →
       Relisted v f new (λ c. lives f w k && eqb c (cornerOf w k old)) w (relisted f old new k w)
   unfolding relisted
   relisted-slot old k w l long =
@@ -178,7 +178,7 @@ module _ {v f new : ℕ} (new-below : new < v) (old : ℕ) where
       rw (e, elsewhere c refl, and-false (lives f w k), p .lives-same (c / 3) (omega arith), corner-same w w' (c / 3) old still))
 
   -- each slot of the list has had its turn
-  pub relisted-all : (ks w : List ℕ) → every (λ k. ltb k f) ks ≡ true → Once ks → 7 * f + v ≤ length w →
+  pub relisted-all : (ks w : List ℕ) → every (λ k. ltb k f) ks ≡ true → Once ks → kindsFrom v f ≤ length w →
       Relisted v f new (picks f old ks w) w (inTurn (relisted f old new) ks w)
   unfolding inTurn some
   relisted-all [] w all once long = relisted-none w

@@ -2,30 +2,19 @@
 -- Assumes nothing.
 use Prim.Native.Nat.{ℕ, _+_, _≤_, _<_}
 use native.Mathlib.Nat.{le-antisymm}
-use native.Mathlib.Numerals.{add-one}
 use native.Mathlib.Omega.{arith}
-use mathlib.Core.Path.{_≡_, refl, sym, ap, subst, _∙_}
-use mathlib.Core.List.{List, [], _∷_, _++_, map-append}
+use mathlib.Core.Path.{_≡_, refl, sym, ap, ap₂, subst, _∙_}
+use mathlib.Core.List.{List, [], _∷_, _++_}
 use mathlib.Core.Bool.{true}
 use lib.Dec.{ltb}
 use lib.ListN.{getD}
 use borrow.Author.Tests.{ltb-true}
 use Rattle.lists.specs.Lists.{every, below, stretch}
-use Rattle.lists.proofs.ListLaws.{every-head, every-tail}
+use Rattle.lists.proofs.EveryLaws.{every-head, every-tail}
 use Rattle.lists.specs.Frames.{But}
 use Rattle.lists.proofs.FrameLaws.{but-refl, but-then}
-use Rattle.lists.proofs.BelowLaws.{every-at, map-same}
+use Rattle.ring.proofs.SlotLaws.{slots-more, slot-small}
 use Rattle.folding.specs.Contracts.Steps.{inTurn}
-
--- a list of slots, one more
-slots-more : (w : List ℕ) (list i : ℕ) → stretch w list (i + 1) ≡ stretch w list i ++ (getD w (list + i) 0 ∷ [])
-unfolding below
-slots-more w list i = rw add-one (map-append (λ j. getD w (list + j) 0) (below i) (i ∷ []))
-
--- it stays where its cells stay
-pub slots-but : {lo hi : ℕ} {w w' : List ℕ} (list n : ℕ) → But lo hi w w' → hi ≤ list → stretch w' list n ≡ stretch w list n
-slots-but {lo} {hi} {w} {w'} list n but above =
-    map-same (λ i. getD w' (list + i) 0) (λ i. getD w (list + i) 0) n (λ i l. but .over (list + i) (omega arith))
 
 module _ (step : ℕ → List ℕ → List ℕ) where
   -- one slot more has its turn
@@ -55,26 +44,25 @@ module _ {step : ℕ → List ℕ → List ℕ} {lo hi : ℕ} {w₀ : List ℕ} 
   unfolding inTurn below
   turn-start = record { most = omega arith; so-far = refl; but = but-refl lo hi w₀ }
 
-  -- the next slot is the one that was in the list at the start, and is one of f
-  pub turn-slot : {i : ℕ} {w : List ℕ} → hi ≤ list → Turning step lo hi w₀ list n i w → getD w (list + i) 0 ≡ getD w₀ (list + i) 0
-  turn-slot {i} {w} above h = h .but .over (list + i) (omega arith)
+  -- the next slot, as it is read, is the one that was in the list at the start
+  module _ {i k : ℕ} {w : List ℕ} (above : hi ≤ list) (read : k ≡ getD w (list + i) 0) (h : Turning step lo hi w₀ list n i w) where
+    pub turn-slot : k ≡ getD w₀ (list + i) 0
+    turn-slot = read ∙ h .but .over (list + i) (omega arith)
 
-  pub turn-inside : {f i : ℕ} {w : List ℕ} → hi ≤ list → i < n → every (λ k. ltb k f) (stretch w₀ list n) ≡ true →
-      Turning step lo hi w₀ list n i w → getD w (list + i) 0 < f
-  turn-inside {f} {i} {w} above l all h =
-      rw (turn-slot above h) (ltb-true (getD w₀ (list + i) 0) f (every-at (λ k. ltb k f) (λ j. getD w₀ (list + j) 0) n all i l))
+    -- it is one of f
+    pub turn-inside : {f : ℕ} → i < n → every (λ k. ltb k f) (stretch w₀ list n) ≡ true → k < f
+    turn-inside {f} l all = omega (arith, turn-slot, slot-small f w₀ list n all i l)
 
-  -- it has its turn
-  pub turn-next : {i : ℕ} {w w' : List ℕ} → hi ≤ list → i < n → But lo hi w w' → w' ≡ step (getD w (list + i) 0) w →
-      Turning step lo hi w₀ list n i w → Turning step lo hi w₀ list n (i + 1) w'
-  turn-next {i} {w} {w'} above l but same h = record {
-    most = omega arith;
-    so-far =
-        same
-        ∙ rw (turn-slot above h) (ap (step (getD w₀ (list + i) 0)) (h .so-far))
-        ∙ sym (ap (λ (ks : List ℕ). inTurn step ks w₀) (slots-more w₀ list i) ∙ turn-more step (stretch w₀ list i) (getD w₀ (list + i) 0) w₀);
-    but = but-then (h .but) but;
-  }
+    -- it has its turn
+    pub turn-next : {w' : List ℕ} → i < n → But lo hi w w' → w' ≡ step k w → Turning step lo hi w₀ list n (i + 1) w'
+    turn-next l but same = record {
+      most = omega arith;
+      so-far =
+          same
+          ∙ ap₂ step turn-slot (h .so-far)
+          ∙ sym (ap (λ (ks : List ℕ). inTurn step ks w₀) (slots-more w₀ list i) ∙ turn-more step (stretch w₀ list i) (getD w₀ (list + i) 0) w₀);
+      but = but-then (h .but) but;
+    }
 
   -- all have had it
   pub turn-end : {i : ℕ} {w : List ℕ} → n ≤ i → Turning step lo hi w₀ list n i w → w ≡ inTurn step (stretch w₀ list n) w₀

@@ -10,59 +10,46 @@ ghost use Rattle.mesh.specs.Contracts.Chains.{Tidy};
 ghost use Rattle.mesh.specs.Contracts.Around.{Gathered};
 ghost use Rattle.memory.specs.Points.{vertexAt};
 ghost use Rattle.folding.specs.Contracts.Folds.{FacesFolded, MeshFolded};
+ghost use Rattle.memory.specs.Layout.{nearFrom};
 
 mod steps;
 
-use geometry::Point;
+use placement::Fold;
+use ring::Ring;
 use steps::kill;
 use steps::relist;
 
-// Folds remove into keep in the faces. near lists the n live faces around keep, far the m live faces around remove. Says how many faces went.
+// Folds remove into keep in the faces, by the live faces around the two. Says how many faces went.
 // The chains of both points are dropped and the live faces listed again, so that no chain grows with dead faces.
-pub fn fold_faces(
-    w: &mut [u32],
-    v: usize,
-    f: usize,
-    keep: usize,
-    remove: usize,
-    near: usize,
-    n: usize,
-    far: usize,
-    m: usize,
-) -> usize
-    requires { ⌜ Tidy v f (now w) ⌝ ∗ ⌜ (keep < v) × (remove < v) × (keep ≢ remove) ⌝ ∗ ⌜ Gathered v f (now w) keep near n ⌝ ∗ ⌜ Gathered v f (now w) remove far m ⌝ ∗ ⌜ (13 * f + 4 * v ≤ near) × (near + f ≤ far) × (far + f ≤ length (now w)) ⌝ }
+pub fn fold_faces(w: &mut [u32], v: usize, f: usize, keep: u32, remove: u32, ring: Ring) -> usize
+    requires { ⌜ Tidy v f (now w) ⌝ ∗ ⌜ (keep < v) × (remove < v) × (keep ≢ remove) ⌝ ∗ ⌜ Gathered v f (now w) keep (ring .near) (ring .nears) ⌝ ∗ ⌜ Gathered v f (now w) remove (ring .far) (ring .fars) ⌝ ∗ ⌜ (nearFrom v f ≤ ring .near) × (ring .near + f ≤ ring .far) × (ring .far + f ≤ length (now w)) ⌝ }
     ensures { λ r. ⌜ FacesFolded v f (now (w .entry)) keep remove (now (w .exit)) r ⌝ }
 {
-    let gone = kill(w, f, near, n, remove as u32);
-    memory::set_first(w, f, keep, 0);
-    memory::set_first(w, f, remove, 0);
-    relist(w, f, near, n, keep as u32, keep as u32);
-    relist(w, f, far, m, remove as u32, keep as u32);
+    let gone = kill(w, f, ring.near, ring.nears, remove);
+    memory::set_first(w, f, keep as usize, 0);
+    memory::set_first(w, f, remove as usize, 0);
+    relist(w, f, ring.near, ring.nears, keep, keep);
+    relist(w, f, ring.far, ring.fars, remove, keep);
     gone
 }
 
-// The whole fold: keep moves to place and gets remove's quadric added, and the faces are folded. Says how many faces went.
+// The whole fold: keep moves to its place and gets remove's quadric added, and the faces are folded. Says how many faces went.
 pub fn fold_mesh(
     w: &mut [u32],
     p: &mut [f32],
     q: &mut [f64],
     v: usize,
     f: usize,
-    keep: u32,
-    remove: u32,
-    place: Point,
-    near: usize,
-    n: usize,
-    far: usize,
-    m: usize,
+    fold: Fold,
+    ring: Ring,
 ) -> usize
-    requires { ⌜ Tidy v f (now w) ⌝ ∗ ⌜ (keep < v) × (remove < v) × (keep ≢ remove) ⌝ ∗ ⌜ Gathered v f (now w) keep near n ⌝ ∗ ⌜ Gathered v f (now w) remove far m ⌝ ∗ ⌜ (13 * f + 4 * v ≤ near) × (near + f ≤ far) × (far + f ≤ length (now w)) × (3 * v ≤ length (now p)) × (10 * v ≤ length (now q)) ⌝ }
-    ensures { λ r. ⌜ ((limit : LimitS) (bound : Float) → place ≡ pairPlace bound (vertexAt v f (now (w .entry)) (now (p .entry)) (now (q .entry)) keep) (vertexAt v f (now (w .entry)) (now (p .entry)) (now (q .entry)) remove) → MeshFolded v f limit bound (now (w .entry)) (now (p .entry)) (now (q .entry)) keep remove (now (w .exit)) (now (p .exit)) (now (q .exit)) r) ⌝ }
+    requires { ⌜ Tidy v f (now w) ⌝ ∗ ⌜ (fold .keep < v) × (fold .remove < v) × (fold .keep ≢ fold .remove) ⌝ ∗ ⌜ Gathered v f (now w) (fold .keep) (ring .near) (ring .nears) ⌝ ∗ ⌜ Gathered v f (now w) (fold .remove) (ring .far) (ring .fars) ⌝ ∗ ⌜ (nearFrom v f ≤ ring .near) × (ring .near + f ≤ ring .far) × (ring .far + f ≤ length (now w)) × (3 * v ≤ length (now p)) × (10 * v ≤ length (now q)) ⌝ }
+    ensures { λ r. ⌜ ((limit : LimitS) (bound : Float) → fold .place ≡ pairPlace bound (vertexAt v f (now (w .entry)) (now (p .entry)) (now (q .entry)) (fold .keep)) (vertexAt v f (now (w .entry)) (now (p .entry)) (now (q .entry)) (fold .remove)) → MeshFolded v f limit bound (now (w .entry)) (now (p .entry)) (now (q .entry)) (fold .keep) (fold .remove) (now (w .exit)) (now (p .exit)) (now (q .exit)) r) ⌝ }
 {
-    let kept = keep as usize;
-    let removed = remove as usize;
-    memory::set_point(p, kept, place);
+    let kept = fold.keep as usize;
+    let removed = fold.remove as usize;
+    memory::set_point(p, kept, fold.place);
     let sum = memory::quadric_at(q, kept).sum(memory::quadric_at(q, removed));
     memory::set_quadric(q, kept, sum);
-    fold_faces(w, v, f, kept, removed, near, n, far, m)
+    fold_faces(w, v, f, fold.keep, fold.remove, ring)
 }

@@ -7,6 +7,7 @@ ghost use lib.ListN.{length};
 ghost use Rattle.lists.specs.Lists.{count, every, stretch};
 ghost use Rattle.walk.specs.Faces.{holds, faceAt};
 ghost use Rattle.folding.specs.Contracts.Steps.{inTurn, killed, cornerOf, moved, relisted};
+ghost use Rattle.memory.specs.Layout.{firstsFrom};
 
 // Kills the face in a slot if it holds x. Says 1 if it did.
 fn kill_face(w: &mut [u32], f: usize, k: usize, x: u32) -> usize
@@ -27,7 +28,7 @@ pub fn kill(w: &mut [u32], f: usize, list: usize, n: usize, x: u32) -> usize
 {
     let mut gone = 0;
     for i in 0..n {
-        let k = w[list + i] as usize;
+        let k = ring::slot_at(w, list, i);
         gone += kill_face(w, f, k, x);
     }
     gone
@@ -38,18 +39,19 @@ fn corner_of(w: &[u32], k: usize, x: u32) -> usize
     requires { ⌜ 3 * k + 2 < length (now w) ⌝ }
     ensures { λ r. ⌜ r ≡ cornerOf (now (w .entry)) k x ⌝ }
 {
-    if memory::corner_at(w, 3 * k) == x {
-        return 3 * k;
+    let first = 3 * k;
+    if memory::corner_at(w, first) == x {
+        return first;
     }
-    if memory::corner_at(w, 3 * k + 1) == x {
-        return 3 * k + 1;
+    if memory::corner_at(w, first + 1) == x {
+        return first + 1;
     }
-    3 * k + 2
+    first + 2
 }
 
 // Puts a corner at another point, and at the head of its chain.
 fn move_corner(w: &mut [u32], f: usize, c: usize, new: u32)
-    requires { ⌜ (c < 3 * f) × (7 * f + new < length (now w)) × (f ≤ 131072) ⌝ }
+    requires { ⌜ (c < 3 * f) × (firstsFrom f + new < length (now w)) × (f ≤ 131072) ⌝ }
     ensures { λ _. ⌜ now (w .exit) ≡ moved f c new (now (w .entry)) ⌝ }
 {
     memory::set_corner(w, c, new);
@@ -58,7 +60,7 @@ fn move_corner(w: &mut [u32], f: usize, c: usize, new: u32)
 
 // In a slot's face, if it is live, the corner at old goes to new and is listed there.
 fn relist_face(w: &mut [u32], f: usize, k: usize, old: u32, new: u32)
-    requires { ⌜ (k < f) × (7 * f + new < length (now w)) × (f ≤ 131072) ⌝ }
+    requires { ⌜ (k < f) × (firstsFrom f + new < length (now w)) × (f ≤ 131072) ⌝ }
     ensures { λ _. ⌜ now (w .exit) ≡ relisted f old new k (now (w .entry)) ⌝ }
 {
     if memory::live_at(w, f, k) == 1 {
@@ -69,11 +71,11 @@ fn relist_face(w: &mut [u32], f: usize, k: usize, old: u32, new: u32)
 
 // The same for each slot of a list.
 pub fn relist(w: &mut [u32], f: usize, list: usize, n: usize, old: u32, new: u32)
-    requires { ⌜ every (λ k. ltb k f) (stretch (now w) list n) ≡ true ⌝ ∗ ⌜ (7 * f + new < list) × (list + n ≤ length (now w)) × (f ≤ 131072) ⌝ }
+    requires { ⌜ every (λ k. ltb k f) (stretch (now w) list n) ≡ true ⌝ ∗ ⌜ (firstsFrom f + new < list) × (list + n ≤ length (now w)) × (f ≤ 131072) ⌝ }
     ensures { λ _. ⌜ now (w .exit) ≡ inTurn (relisted f old new) (stretch (now (w .entry)) list n) (now (w .entry)) ⌝ }
 {
     for i in 0..n {
-        let k = w[list + i] as usize;
+        let k = ring::slot_at(w, list, i);
         relist_face(w, f, k, old, new);
     }
 }

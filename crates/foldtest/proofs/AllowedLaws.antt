@@ -16,13 +16,11 @@ use Rattle.walk.specs.Faces.{proper, shared, common, faceAt}
 use Rattle.walk.specs.Points.{dataOf, mergedOf}
 use Rattle.walk.specs.FoldTest.{movedOf, fairFace, allowed}
 use Rattle.walk.specs.Pairs.{pairOf}
-use Rattle.lists.proofs.TestLaws.{by-test}
-use Rattle.lists.proofs.SumLaws.{map-same}
-use Rattle.lists.proofs.ListLaws.{every-map}
+use Rattle.lists.proofs.TestLaws.{by-test, by-outcome as by-outcome}
+use Rattle.lists.proofs.EveryLaws.{map-same, every-map, every-counted}
 use Rattle.walk.proofs.FaceLaws.{corners}
 use Rattle.memory.specs.Memory.{lives, liveFaces, Proper}
-use Rattle.lists.proofs.CondLaws.{by-outcome as by-outcome}
-use Rattle.lists.proofs.BelowSums.{every-counted, sum-none}
+use Rattle.lists.proofs.BelowLaws.{sum-none}
 use Rattle.mesh.proofs.AroundLaws.{live-sums}
 use Rattle.meaning.specs.Input.{pointAt}
 use Rattle.memory.specs.Points.{vertexAt, meshOf}

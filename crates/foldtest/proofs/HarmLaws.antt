@@ -14,7 +14,8 @@ use Rattle.walk.specs.declared.Face.{Face}
 use Rattle.lists.specs.Lists.{sum, some, stretch}
 use Rattle.walk.specs.Faces.{holds, proper, faceAt}
 use Rattle.lists.proofs.TestLaws.{by-test}
-use Rattle.lists.proofs.SumLaws.{sum-same, sum-add, some-count, every-count}
+use Rattle.lists.proofs.SumLaws.{sum-same, sum-add}
+use Rattle.lists.proofs.EveryLaws.{some-count, every-count}
 use Rattle.walk.proofs.FaceLaws.{corners}
 use Rattle.memory.specs.Memory.{liveFaces}
 use Rattle.mesh.specs.Contracts.Around.{Gathered}

@@ -9,18 +9,19 @@ ghost use Rattle.foldtest.specs.Contracts.Fair.{Placed, squashed, turned
 use geometry::Point;
 use geometry::normal;
 use memory::point_at;
+use placement::Fold;
 use walk::Face;
 
 // Where a point is after the fold.
-fn moved(p: &[f32], x: u32, keep: u32, remove: u32, place: Point) -> Point
+fn moved(p: &[f32], x: u32, fold: Fold) -> Point
     requires { ⌜ 3 * x + 2 < length (now p) ⌝ }
-    ensures { λ r. ⌜ r ≡ movedAt (now (p .entry)) keep remove place x ⌝ }
+    ensures { λ r. ⌜ r ≡ movedAt (now (p .entry)) (fold .keep) (fold .remove) (fold .place) x ⌝ }
 {
-    if x == keep {
-        return place;
+    if x == fold.keep {
+        return fold.place;
     }
-    if x == remove {
-        return place;
+    if x == fold.remove {
+        return fold.place;
     }
     point_at(p, x as usize)
 }
@@ -38,14 +39,14 @@ fn normal_before(p: &[f32], face: Face) -> Point
 }
 
 // A face's normal after the fold.
-fn normal_after(p: &[f32], face: Face, keep: u32, remove: u32, place: Point) -> Point
+fn normal_after(p: &[f32], face: Face, fold: Fold) -> Point
     requires { ⌜ Placed (now p) face ⌝ }
-    ensures { λ r. ⌜ r ≡ normalOf (movedAt (now (p .entry)) keep remove place (face .a)) (movedAt (now (p .entry)) keep remove place (face .b)) (movedAt (now (p .entry)) keep remove place (face .c)) ⌝ }
+    ensures { λ r. ⌜ r ≡ normalOf (movedAt (now (p .entry)) (fold .keep) (fold .remove) (fold .place) (face .a)) (movedAt (now (p .entry)) (fold .keep) (fold .remove) (fold .place) (face .b)) (movedAt (now (p .entry)) (fold .keep) (fold .remove) (fold .place) (face .c)) ⌝ }
 {
     normal(
-        moved(p, face.a, keep, remove, place),
-        moved(p, face.b, keep, remove, place),
-        moved(p, face.c, keep, remove, place),
+        moved(p, face.a, fold),
+        moved(p, face.b, fold),
+        moved(p, face.c, fold),
     )
 }
 
@@ -76,12 +77,9 @@ fn are_fair(before: Point, after: Point) -> bool
 }
 
 // Whether the fold neither squashes a face nor turns it over.
-pub fn is_fair(p: &[f32], face: Face, keep: u32, remove: u32, place: Point) -> bool
+pub fn is_fair(p: &[f32], face: Face, fold: Fold) -> bool
     requires { ⌜ Placed (now p) face ⌝ }
-    ensures { λ r. ⌜ r ≡ fairAt (now (p .entry)) keep remove place face ⌝ }
+    ensures { λ r. ⌜ r ≡ fairAt (now (p .entry)) (fold .keep) (fold .remove) (fold .place) face ⌝ }
 {
-    are_fair(
-        normal_before(p, face),
-        normal_after(p, face, keep, remove, place),
-    )
+    are_fair(normal_before(p, face), normal_after(p, face, fold))
 }

@@ -1,10 +1,10 @@
 -- A step's answer: at the end, and of a pair that is off the queue.
 -- Assumes nothing.
-use Prim.Native.Nat.{ℕ, _+_, _*_, _≤_}
+use Prim.Native.Nat.{ℕ, _+_, _≤_}
 use native.Mathlib.Omega.{arith}
 use mathlib.Core.Path.{_≡_, refl, sym, ap, _∙_}
 use mathlib.Core.List.{List}
-use mathlib.Core.Bool.{Bool, true, false, cond, false≢true}
+use mathlib.Core.Bool.{Bool, cond, false≢true}
 use lib.Dec.{leb}
 use lib.Ieee.{Float}
 use lib.ListN.{length}
@@ -33,10 +33,13 @@ use Rattle.plainwalk.specs.declared.Step.the-variants.{Closed, Ended}
 use Rattle.plainwalk.specs.declared.Stepped.{Stepped}
 use Rattle.walk.proofs.StateLaws.{same-refl, sound-bag}
 use Rattle.plainwalk.specs.Steps.{StepWithin}
-use Rattle.plainwalk.proofs.MemoryLaws.{mesh-but, within-refl, within-but}
+use Rattle.plainwalk.proofs.MemoryLaws.{within-refl, within-but}
+use Rattle.memory.proofs.MeshLaws.{mesh-but}
 use Rattle.heapwalk.specs.Steps.{pairState, HeapHolds, TopHolds, PairHolds, PairAnswer, TopTried, HeapStepDone}
-use Rattle.heapwalk.proofs.MovedLaws.{moved-but, kept-moved}
+use Rattle.queue.proofs.MovedLaws.{moved-but, kept-moved}
 use Rattle.heapwalk.proofs.MemoryLaws.{answer-before, pair-state-but}
+use Rattle.memory.specs.Layout.{nearFrom, orderFrom, stampsFrom}
+use Rattle.lists.proofs.CondLaws.{cond-same}
 
 -- ---- a pair that is off the queue
 
@@ -75,7 +78,7 @@ tried-by v f w p q n keep remove limit bound ok passed e is done = rw (← is, e
 -- what is done after cells of near and far have changed is done to the state as it was
 pub tried-before : {v f : ℕ} {w w₁ : List ℕ} {p q : List Float} {n live lo hi : ℕ} {limit : Limit} {bound : Float} {keep remove : ℕ} {place : Point}
     {w' : List ℕ} {p' q' : List Float} {r : Stepped} → PairHolds v f w p q n live bound keep remove place →
-    But lo hi w w₁ → 13 * f + 4 * v ≤ lo → hi ≤ 15 * f + 5 * v →
+    But lo hi w w₁ → nearFrom v f ≤ lo → hi ≤ orderFrom v f →
     PairAnswer v f w₁ p q n keep remove limit bound (tried (rulesOf limit bound) (meshOf v f w₁ p q) (pairOf keep remove)) w' p' q' r →
     PairAnswer v f w p q n keep remove limit bound (tried (rulesOf limit bound) (meshOf v f w p q) (pairOf keep remove)) w' p' q' r
 tried-before {v} {f} {w} {w₁} {p} {q} {limit = limit} {bound = bound} {keep = keep} {remove = remove} h but above up done =
@@ -97,11 +100,6 @@ module _ (v f : ℕ) (w : List ℕ) (p q : List Float) (n s : ℕ) {bound : Floa
   top-tried done = rw (same-keep, same-remove) at done
 
 -- ---- the end
-
--- with no open pair it makes no difference whether the target is met
-either-way : (b : Bool) → cond b ended ended ≡ ended
-either-way true = refl
-either-way false = refl
 
 module _ {v f : ℕ} {w : List ℕ} {p q : List Float} {n live : ℕ} {bound : Float} (h : HeapHolds v f w p q n live bound) (target : ℕ) (limit : Limit) where
   -- where the answer is the end, the state stays
@@ -137,10 +135,10 @@ module _ {v f : ℕ} {w : List ℕ} {p q : List Float} {n live : ℕ} {bound : F
           };
       sound = sound-bag none-same (h .sound);
       counted = h .counted ∙ ap length (sym (live-faces-but f (gone .but) (omega arith)));
-      young = λ x l. rw (gone .but .under (7 * f + 3 * v + x) (omega arith)) (h .young x l);
+      young = λ x l. rw (gone .but .under (stampsFrom v f + x) (omega arith)) (h .young x l);
     }
 
     pub none-left : HeapStepDone v f w p q n target limit bound w' p q (record { step = Ended; «open» = 0; live = live })
     unfolding answer chosen heapState meshOf
     none-left =
-        ended-done (rw (gone .none) (either-way (leb (length (liveFaces f w)) target))) none-holds (within-but p q (gone .but) (omega arith)) none-same
+        ended-done (rw (gone .none) (cond-same (leb (length (liveFaces f w)) target) ended)) none-holds (within-but p q (gone .but) (omega arith)) none-same

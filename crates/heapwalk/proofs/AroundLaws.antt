@@ -2,9 +2,9 @@
 -- Assumes nothing.
 use Prim.Native.Nat.{ℕ, _+_, _*_, _≤_, _<_}
 use native.Mathlib.Omega.{arith}
-use mathlib.Core.Path.{_≡_, refl, sym, ap, ap₂, _∙_}
+use mathlib.Core.Path.{_≡_, sym, ap, ap₂, _∙_}
 use mathlib.Core.List.{List}
-use mathlib.Core.Bool.{Bool, true, false, _&&_, cond}
+use mathlib.Core.Bool.{Bool, true, _&&_, cond}
 use lib.Dec.{ltb}
 use lib.Ieee.{Float}
 use lib.ListN.{length, getD}
@@ -12,53 +12,40 @@ use borrow.Author.Tests.{lt-ltb}
 use Rattle.placement.specs.declared.Limit.{Limit}
 use Rattle.walk.specs.declared.Pair.{Pair}
 use Rattle.lists.specs.Lists.{sum, those, every, below}
-use Rattle.walk.specs.Points.{Rules, Mesh}
 use Rattle.walk.specs.Pairs.{pairOf, eligiblePair}
 use Rattle.lists.proofs.TestLaws.{by-test}
 use Rattle.lists.proofs.SumLaws.{sum-map, sum-those, sum-length}
-use Rattle.walk.proofs.OpenSums.{opened-sum}
 use Rattle.memory.specs.Memory.{liveFaces, aroundIn}
-use Rattle.lists.proofs.FrameLaws.{but-then, but-widen}
-use Rattle.lists.proofs.BelowSums.{sum-none, count-most, every-counted, sum-same-below}
+use Rattle.lists.proofs.FrameLaws.{but-then, but-widen, floats-refl}
+use Rattle.lists.proofs.BelowLaws.{sum-none, count-below-most, sum-same-below, length-each}
+use Rattle.lists.proofs.EveryLaws.{every-counted}
 use Rattle.memory.specs.Points.{meshOf}
 use Rattle.meaning.specs.Arithmetic.{rulesOf}
-use Rattle.lists.proofs.EachLaws.{length-each}
 use Rattle.openpairs.proofs.MeshLaws.{mesh-points}
-use Rattle.ring.specs.Contracts.Listing.{isAround, Listed}
-use Rattle.openpairs.specs.Contracts.Edges.{risingFrom, openedAround}
+use Rattle.ring.specs.Contracts.Listing.{isAround, AroundListed}
+use Rattle.openpairs.specs.Contracts.Edges.{openedAround}
 use Rattle.openpairs.specs.Contracts.Waiting.{fits}
-use Rattle.openpairs.proofs.AddLaws.{fits-mesh}
+use Rattle.openpairs.proofs.AddLaws.{around-sum, fits-mesh}
 use Rattle.queue.specs.State.{openIn}
 use Rattle.heapwalk.specs.Contracts.Entering.{Open, Entered}
 use Rattle.heapwalk.specs.Contracts.Listing.{pairsWith, Enterable, EnteredBeside}
-use Rattle.heapwalk.proofs.QueueFrames.{floats-refl, fits-stays, open-lists, held-lists}
-
--- what is opened around x, as a sum over the points
-around-sum : {D : Type 0} (rules : Rules D) (m : Mesh D) (rising : Bool) (x : ℕ) (g : Pair → ℕ) →
-    sum g (openedAround rules m rising x)
-    ≡ sum (λ y. cond (isAround rising (m .faces) x y && eligiblePair rules m (pairOf x y)) (g (pairOf x y)) 0) (below (length (m .points)))
-unfolding risingFrom
-around-sum rules m true x g = sum-map g (pairOf x) _ ∙ sum-those (λ y. g (pairOf x y)) _ (below (length (m .points)))
-around-sum rules m false x g = opened-sum rules m g x
-
--- one test after another is both
-cond-both : (a b : Bool) (n : ℕ) → cond a (cond b n 0) 0 ≡ cond (a && b) n 0
-cond-both true b n = refl
-cond-both false b n = refl
+use Rattle.heapwalk.proofs.QueueFrames.{fits-stays, open-lists, held-lists}
+use Rattle.memory.specs.Layout.{aroundFrom}
+use Rattle.lists.proofs.CondLaws.{cond-and}
 
 module _ {v f : ℕ} {w w₁ : List ℕ} {p q : List Float} {n : ℕ} {rising : Bool} {x count : ℕ} {bound : Float}
-    (held : Open v f w p q n bound) (x-in : x < v) (around : Listed v f w rising x w₁ count) where
+    (held : Open v f w p q n bound) (x-in : x < v) (around : AroundListed v f w rising x w₁ count) where
   -- they are at most v, and each is below v
   pub around-few : count ≤ v
   around-few =
       let test = isAround rising (liveFaces f w) x in
       omega (
         arith,
-        length-each (λ i. getD w₁ (15 * f + 4 * v + i) 0) count,
+        length-each (λ i. getD w₁ (aroundFrom v f + i) 0) count,
         sum-length (aroundIn v f w₁ count),
         around .sums (λ y. 1),
         sum-those (λ y. 1) test (below v),
-        count-most test v,
+        count-below-most test v,
       )
 
   around-points : every (λ y. ltb y v) (aroundIn v f w₁ count) ≡ true
@@ -86,7 +73,7 @@ module _ {v f : ℕ} {w w₁ : List ℕ} {p q : List Float} {n : ℕ} {rising : 
       ∙ around .sums weight
       ∙ sum-those weight test (below v)
       ∙ sum-same-below _ (λ y. cond (test y && eligiblePair rules m (pairOf x y)) (g (pairOf x y)) 0) v
-      (λ y l. cond-both (test y) _ (g (pairOf x y)) ∙ ap (λ (b : Bool). cond (test y && b) (g (pairOf x y)) 0) (fitting y l))
+      (λ y l. sym (cond-and (test y) _ (g (pairOf x y))) ∙ ap (λ (b : Bool). cond (test y && b) (g (pairOf x y)) 0) (fitting y l))
       ∙ ap (λ (k : ℕ). sum (λ y. cond (test y && eligiblePair rules m (pairOf x y)) (g (pairOf x y)) 0) (below k)) (sym (mesh-points v f w p q))
       ∙ sym (around-sum rules m rising x g)
 

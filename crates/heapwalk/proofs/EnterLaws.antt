@@ -19,21 +19,20 @@ use Rattle.walk.specs.declared.Pair.{Pair}
 use Rattle.lists.specs.Lists.{sum, those, every, below}
 use Rattle.walk.specs.Pairs.{pairOf}
 use Rattle.lists.proofs.TestLaws.{by-test}
-use Rattle.lists.proofs.ListLaws.{every-head, every-cons, length-those}
-use Rattle.lists.proofs.SumLaws.{sum-append, sum-map, sum-length, every-at}
-use Rattle.lists.proofs.FrameLaws.{but-refl, but-then}
+use Rattle.lists.proofs.EveryLaws.{every-head, every-cons, length-those, every-at, those-append}
+use Rattle.lists.proofs.SumLaws.{sum-append, sum-map, sum-length}
+use Rattle.lists.proofs.FrameLaws.{but-refl, but-then, floats-refl, floats-then}
 use Rattle.mesh.proofs.TidyLaws.{tidy-but}
-use Rattle.lists.proofs.EachLaws.{length-each, getD-each}
-use Rattle.lists.proofs.AppendLaws.{those-append}
+use Rattle.lists.proofs.BelowLaws.{length-each, getD-each, sum-partial}
 use Rattle.memory.specs.Memory.{aroundIn}
 use Rattle.openpairs.specs.Contracts.Waiting.{fits}
-use Rattle.openpairs.proofs.WaitLaws.{sum-partial}
 use Rattle.queue.specs.State.{openIn}
 use Rattle.queue.specs.Contracts.Queued.{Kept}
 use Rattle.queue.specs.Contracts.Changes.{Pushed}
 use Rattle.heapwalk.specs.Contracts.Entering.{Open, Entered}
 use Rattle.heapwalk.specs.Contracts.Listing.{pairsWith, Enterable, EnteredBeside}
-use Rattle.heapwalk.proofs.QueueFrames.{floats-refl, floats-then, fits-stays}
+use Rattle.heapwalk.proofs.QueueFrames.{fits-stays}
+use Rattle.memory.specs.Layout.{aroundFrom}
 
 -- ---- a pair's candidate
 
@@ -120,10 +119,10 @@ module _ (v f : ℕ) (w : List ℕ) (p q : List Float) (limit : Limit) (bound : 
 
   -- with the listed points, one more, and how many they are
   with-next : (i : ℕ) → pairsWith v f w p q limit bound x (aroundIn v f w (i + 1))
-      ≡ pairsWith v f w p q limit bound x (aroundIn v f w i) ++ pairsWith v f w p q limit bound x (getD w (15 * f + 4 * v + i) 0 ∷ [])
+      ≡ pairsWith v f w p q limit bound x (aroundIn v f w i) ++ pairsWith v f w p q limit bound x (getD w (aroundFrom v f + i) 0 ∷ [])
   unfolding below
   with-next i =
-      let at : ℕ → ℕ = λ i. getD w (15 * f + 4 * v + i) 0 in
+      let at : ℕ → ℕ = λ i. getD w (aroundFrom v f + i) 0 in
       let test = fits v f w p q limit bound x in
       rw add-one
       (ap (λ (ys : List ℕ). map (pairOf x) (those test ys)) (map-append at (below i) (i ∷ []))
@@ -131,9 +130,9 @@ module _ (v f : ℕ) (w : List ℕ) (p q : List Float) (limit : Limit) (bound : 
       ∙ map-append (pairOf x) (those test (map at (below i))) (those test (at i ∷ [])))
 
   with-length : (n : ℕ) → length (pairsWith v f w p q limit bound x (aroundIn v f w n))
-      ≡ sum (λ i. cond (fits v f w p q limit bound x (getD w (15 * f + 4 * v + i) 0)) 1 0) (below n)
+      ≡ sum (λ i. cond (fits v f w p q limit bound x (getD w (aroundFrom v f + i) 0)) 1 0) (below n)
   with-length n =
-      let at : ℕ → ℕ = λ i. getD w (15 * f + 4 * v + i) 0 in
+      let at : ℕ → ℕ = λ i. getD w (aroundFrom v f + i) 0 in
       let test = fits v f w p q limit bound x in
       length-map (those test (map at (below n))) (pairOf x)
       ∙ length-those test (map at (below n))
@@ -193,12 +192,12 @@ module _ {v f : ℕ} {w₀ : List ℕ} {p₀ q₀ : List Float} {n₀ : ℕ} {li
   module _ {w : List ℕ} {p q : List Float} {n i : ℕ}
       (so-far : EnteredBeside v f w₀ p₀ q₀ n₀ bound (pairsWith v f w₀ p₀ q₀ limit bound x (aroundIn v f w₀ i)) w p q n) (inside : i < count) where
     -- the point is the one that was listed
-    turn-point : getD w (15 * f + 4 * v + i) 0 ≡ getD w₀ (15 * f + 4 * v + i) 0
-    turn-point = so-far .lists-same (15 * f + 4 * v + i) (omega arith) (omega arith)
+    turn-point : getD w (aroundFrom v f + i) 0 ≡ getD w₀ (aroundFrom v f + i) 0
+    turn-point = so-far .lists-same (aroundFrom v f + i) (omega arith) (omega arith)
 
-    turn-below : getD w₀ (15 * f + 4 * v + i) 0 < v
+    turn-below : getD w₀ (aroundFrom v f + i) 0 < v
     turn-below =
-        let at : ℕ → ℕ = λ i. getD w₀ (15 * f + 4 * v + i) 0 in
+        let at : ℕ → ℕ = λ i. getD w₀ (aroundFrom v f + i) 0 in
         ltb-true (at i) v
         (ap (λ (y : ℕ). ltb y v) (sym (getD-each at count i 0 inside))
         ∙ every-at (λ y. ltb y v) 0 (aroundIn v f w₀ count) (ready .points) i (rw length-each inside))
@@ -210,10 +209,10 @@ module _ {v f : ℕ} {w₀ : List ℕ} {p₀ q₀ : List Float} {n₀ : ℕ} {li
         let fitting = fits-stays v f (done .but) (omega arith) (done .points-but) (done .quadrics-but) limit bound x y (ready .point) l in
         with-one v f w p q limit bound x y _ fitting ∙ sym (with-one v f w₀ p₀ q₀ limit bound x y _ refl)
 
-    module _ {y : ℕ} (read : y ≡ getD w (15 * f + 4 * v + i) 0) where
-      turn-with : pairsWith v f w p q limit bound x (y ∷ []) ≡ pairsWith v f w₀ p₀ q₀ limit bound x (getD w₀ (15 * f + 4 * v + i) 0 ∷ [])
+    module _ {y : ℕ} (read : y ≡ getD w (aroundFrom v f + i) 0) where
+      turn-with : pairsWith v f w p q limit bound x (y ∷ []) ≡ pairsWith v f w₀ p₀ q₀ limit bound x (getD w₀ (aroundFrom v f + i) 0 ∷ [])
       turn-with =
-          ap (λ (y : ℕ). pairsWith v f w p q limit bound x (y ∷ [])) (read ∙ turn-point) ∙ turn-same (getD w₀ (15 * f + 4 * v + i) 0) turn-below
+          ap (λ (y : ℕ). pairsWith v f w p q limit bound x (y ∷ [])) (read ∙ turn-point) ∙ turn-same (getD w₀ (aroundFrom v f + i) 0) turn-below
 
       pub turn-ready : Enterable v f w p q n limit bound x (y ∷ [])
       turn-ready = record {

@@ -5,16 +5,15 @@ use Prim.Native.Nat.{ℕ, _+_, _*_, _-_, _^_, _≤_, _<_}
 use native.Mathlib.Omega.{arith}
 use mathlib.Core.Path.{_≡_, refl, sym, ap, ap₂, _∙_}
 use mathlib.Core.List.{List, _∷_}
-use mathlib.Core.Bool.{Bool, false, cond}
+use mathlib.Core.Bool.{false, cond}
 use lib.Dec.{eqb}
 use lib.Ieee.{Float, nan}
 use lib.ListN.{length, getD, length-append}
 use lib.Seq.{getD-set-other}
-use borrow.Author.Tests.{eqb-false, eq-eqb}
+use borrow.Author.Tests.{eqb-false}
 use Rattle.geometry.specs.declared.Point.{Point}
 use Rattle.placement.specs.declared.Limit.{Limit}
 use Rattle.placement.specs.declared.pair.Vertex.{Vertex}
-use Rattle.walk.specs.declared.Pair.{Pair}
 use Rattle.lists.specs.Lists.{sum, those}
 use Rattle.walk.specs.Points.{Mesh, mergedOf}
 use Rattle.walk.specs.Fold.{foldedFaces, foldedMesh}
@@ -32,7 +31,7 @@ use Rattle.mesh.proofs.TidyLaws.{tidy-but}
 use Rattle.mesh.proofs.AroundLaws.{live-faces-but}
 use Rattle.memory.specs.Points.{vertexAt, meshOf}
 use Rattle.meaning.specs.Arithmetic.{rulesOf}
-use Rattle.memory.proofs.MeshLaws.{mesh-point}
+use Rattle.memory.proofs.MeshLaws.{mesh-point, mesh-but}
 use Rattle.openpairs.specs.Contracts.Edges.{openedAround}
 use Rattle.folding.specs.Contracts.Folds.{MeshFolded}
 use Rattle.memory.specs.Entries.{slotAt, stamp}
@@ -41,23 +40,14 @@ use Rattle.heapwalk.specs.Contracts.Entering.{Open, Entered}
 use Rattle.plainwalk.specs.declared.Step.the-variants.{Folded}
 use Rattle.walk.proofs.StateLaws.{sound-bag}
 use Rattle.plainwalk.specs.Steps.{StepWithin}
-use Rattle.plainwalk.proofs.MemoryLaws.{live-few, mesh-but, rest-more, within-then}
+use Rattle.plainwalk.proofs.MemoryLaws.{live-few, within-then}
+use Rattle.lists.proofs.DropLaws.{rest-more, past-drop}
+use Rattle.walk.proofs.PairLaws.{touches, spared-apart, without-self}
 use Rattle.heapwalk.specs.Steps.{pairState, PairHolds, PairAnswer}
-use Rattle.lists.proofs.ThoseLaws.{by-twos}
-use Rattle.heapwalk.proofs.MovedLaws.{Moved, spared, queue-moved, fewer-moved, open-moved, kept-moved}
-use Rattle.heapwalk.proofs.MemoryLaws.{past-drop, mesh-floats, pair-open, pair-points, pair-differ, pair-shared}
-use Rattle.heapwalk.proofs.StampLaws.{bumped, touches, first-room, first-stamp, both-but, both-stamps}
-
--- the pairs that the fold spares are those apart from it
-spared-apart : (keep remove : ℕ) (ps : List Pair) → those (spared (touches keep remove)) ps ≡ those (apart (pairOf keep remove)) ps
-spared-apart keep remove ps =
-    ap (λ (test : Pair → Bool). those test ps)
-    (λ i x. by-twos (eqb (x .keep) keep) (eqb (x .keep) remove) (eqb (x .remove) keep) (eqb (x .remove) remove) i)
-
--- a pair is not apart from itself
-without-self : (x : Pair) (ps : List Pair) → those (apart x) (x ∷ ps) ≡ those (apart x) ps
-unfolding those
-without-self x ps = rw (eq-eqb (x .keep) (x .keep) refl)
+use Rattle.queue.proofs.MovedLaws.{Moved, queue-moved, fewer-moved, open-moved, kept-moved}
+use Rattle.heapwalk.proofs.MemoryLaws.{mesh-floats, pair-open, pair-points, pair-differ, pair-shared}
+use Rattle.heapwalk.proofs.StampLaws.{bumped, first-room, first-stamp, both-but, both-stamps}
+use Rattle.memory.specs.Layout.{costsTo, keepStampsFrom, keepsFrom, orderFrom, placesTo, removeStampsFrom, removesFrom, stampsFrom}
 
 module _ {v f : ℕ} {w : List ℕ} {p q : List Float} {n live : ℕ} {limit : Limit} {bound : Float} {keep remove : ℕ} {place : Point}
     {w₁ : List ℕ} {p' q' : List Float} {gone : ℕ}
@@ -76,7 +66,7 @@ module _ {v f : ℕ} {w : List ℕ} {p q : List Float} {n live : ℕ} {limit : L
       let inside = pair-points h .0 in (
         inside,
         fold .tidy .room,
-        omega (arith, fold .but .over (7 * f + 3 * v + keep) (omega arith), h .held .young keep inside, h .held .«open» .tidy .room),
+        omega (arith, fold .but .over (stampsFrom v f + keep) (omega arith), h .held .young keep inside, h .held .«open» .tidy .room),
       )
 
   pub remove-grows : {w₂ : List ℕ} → w₂ ≡ bumped v f w₁ keep → (remove < v) × Room v f w₂ × (stamp v f w₂ remove + 1 < 2 ^ 32)
@@ -90,23 +80,23 @@ module _ {v f : ℕ} {w : List ℕ} {p q : List Float} {n live : ℕ} {limit : L
           arith,
           first-stamp room kept-inside one remove,
           flag-le (eqb remove keep),
-          fold .but .over (7 * f + 3 * v + remove) (omega arith),
+          fold .but .over (stampsFrom v f + remove) (omega arith),
           h .held .young remove inside,
           h .held .«open» .tidy .room,
         ),
       )
 
   module _ {w₂ w₃ : List ℕ} (one : w₂ ≡ bumped v f w₁ keep) (two : w₃ ≡ bumped v f w₂ remove) where
-    stamps-but : But (7 * f + 3 * v) (7 * f + 4 * v) w₁ w₃
+    stamps-but : But (stampsFrom v f) (keepsFrom v f) w₁ w₃
     stamps-but = both-but (fold .tidy .room) (pair-points h .0) (pair-points h .1) (pair-differ h) one two
 
-    whole-but : But 0 (7 * f + 4 * v) w w₃
+    whole-but : But 0 (keepsFrom v f) w w₃
     whole-but = but-then (but-widen (omega arith) (omega arith) (fold .but)) (but-widen (omega arith) (omega arith) stamps-but)
 
     stamps-are : (x : ℕ) → x < v → stamp v f w₃ x ≡ stamp v f w x + cond (touches keep remove x) 1 0
     stamps-are x l =
         both-stamps (fold .tidy .room) (pair-points h .0) (pair-points h .1) (pair-differ h) one two x
-        ∙ ap (λ (k : ℕ). k + cond (touches keep remove x) 1 0) (fold .but .over (7 * f + 3 * v + x) (omega arith))
+        ∙ ap (λ (k : ℕ). k + cond (touches keep remove x) 1 0) (fold .but .over (stampsFrom v f + x) (omega arith))
 
     stamped-mesh : meshOf v f w₃ p' q' ≡ foldedMesh (rulesOf limit bound) (meshOf v f w p q) (pairOf keep remove)
     stamped-mesh = mesh-but v f p' q' stamps-but (omega arith) ∙ fold .same-mesh
@@ -124,10 +114,10 @@ module _ {v f : ℕ} {w : List ℕ} {p q : List Float} {n live : ℕ} {limit : L
 
     fold-moved : Moved v f w p q w₃ p' q' (touches keep remove)
     fold-moved = record {
-      keeps = λ s l. whole-but .over (7 * f + 4 * v + s) (omega arith);
-      removes = λ s l. whole-but .over (10 * f + 4 * v + s) (omega arith);
-      keep-stamps = λ s l. whole-but .over (18 * f + 5 * v + s) (omega arith);
-      remove-stamps = λ s l. whole-but .over (21 * f + 5 * v + s) (omega arith);
+      keeps = λ s l. whole-but .over (keepsFrom v f + s) (omega arith);
+      removes = λ s l. whole-but .over (removesFrom v f + s) (omega arith);
+      keep-stamps = λ s l. whole-but .over (keepStampsFrom v f + s) (omega arith);
+      remove-stamps = λ s l. whole-but .over (removeStampsFrom v f + s) (omega arith);
       costs = λ s l. past-drop nan q' q (10 * v) (fold .rest-q) (10 * v + s) (omega arith);
       places = λ s l.
           let past = past-drop nan p' p (3 * v) (fold .rest-p) in
@@ -137,7 +127,7 @@ module _ {v f : ℕ} {w : List ℕ} {p q : List Float} {n live : ℕ} {limit : L
     }
 
     order-same : (i : ℕ) → i < 3 * f → slotAt v f w₃ i ≡ slotAt v f w i
-    order-same i l = whole-but .over (15 * f + 5 * v + i) (omega arith)
+    order-same i l = whole-but .over (orderFrom v f + i) (omega arith)
 
     -- the pairs that stay open
     spared-open : openIn v f w₃ n ≡ those (apart (pairOf keep remove)) (openIn v f w n)
@@ -200,8 +190,8 @@ module _ {v f : ℕ} {w : List ℕ} {p q : List Float} {n live : ℕ} {limit : L
             but = but-widen (omega arith) (omega arith) whole-but;
             same-length-p = fold .same-length-p;
             same-length-q = fold .same-length-q;
-            rest-p = rest-more p' p (3 * v) (3 * v + 9 * f) (omega arith) (fold .rest-p);
-            rest-q = rest-more q' q (10 * v) (10 * v + 3 * f) (omega arith) (fold .rest-q);
+            rest-p = rest-more p' p (3 * v) (placesTo v f) (omega arith) (fold .rest-p);
+            rest-q = rest-more q' q (10 * v) (costsTo v f) (omega arith) (fold .rest-q);
           })
           (record {
             but = but-widen (omega arith) (omega arith) (into .but);
@@ -216,7 +206,7 @@ module _ {v f : ℕ} {w : List ℕ} {p q : List Float} {n live : ℕ} {limit : L
       still-young x l =
           omega (
             arith,
-            enter .enqueued .but .under (7 * f + 3 * v + x) (omega arith),
+            enter .enqueued .but .under (stampsFrom v f + x) (omega arith),
             stamps-are x l,
             flag-le (touches keep remove x),
             h .held .young x l,

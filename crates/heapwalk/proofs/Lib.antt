@@ -3,8 +3,6 @@ pub mod QueueFrames
 pub mod EnterLaws
 pub mod AroundLaws
 pub mod StartLaws
-pub mod SlotLaws
-pub mod MovedLaws
 pub mod MemoryLaws
 pub mod StampLaws
 pub mod FoldedLaws

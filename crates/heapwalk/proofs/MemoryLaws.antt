@@ -1,13 +1,12 @@
 -- What a state in memory hangs on, and a pair of it that is off the queue.
 -- Assumes nothing.
-use Prim.Native.Nat.{ℕ, _+_, _*_, _-_, _≤_, _<_}
+use Prim.Native.Nat.{ℕ, _+_, _*_, _≤_, _<_}
 use native.Mathlib.Omega.{arith}
 use mathlib.Core.Path.{_≡_, refl, sym, ap, ap₂, subst, _∙_}
 use mathlib.Core.Logic.{_≢_}
 use mathlib.Core.List.{List}
 use lib.Ieee.{Float}
-use lib.ListN.{length, getD, drop}
-use lib.Seq.{getD-drop}
+use lib.ListN.{length}
 use Rattle.geometry.specs.declared.Point.{Point}
 use Rattle.placement.specs.declared.Limit.{Limit}
 use Rattle.placement.specs.declared.pair.Vertex.{Vertex}
@@ -22,34 +21,22 @@ use Rattle.walk.proofs.SoundLaws.{isOpen, open-differ, open-shared, open-below}
 use Rattle.walk.proofs.BagWalk.{after-bag}
 use Rattle.memory.specs.Memory.{liveFaces}
 use Rattle.lists.specs.Frames.{But, FloatsBut}
-use Rattle.mesh.proofs.TidyLaws.{tidy-but}
 use Rattle.mesh.proofs.AroundLaws.{live-faces-but}
 use Rattle.memory.specs.Points.{vertexAt, meshOf}
 use Rattle.meaning.specs.Arithmetic.{rulesOf}
-use Rattle.lists.proofs.EachLaws.{each-same}
-use Rattle.memory.proofs.MeshLaws.{mesh-length, mesh-of-parts}
-use Rattle.memory.specs.Entries.{slotAt}
+use Rattle.lists.proofs.BelowLaws.{each-same}
+use Rattle.memory.proofs.MeshLaws.{mesh-length, mesh-of-parts, mesh-but}
 use Rattle.queue.specs.State.{openIn}
 use Rattle.heapwalk.specs.Contracts.Entering.{Open}
 use Rattle.plainwalk.specs.declared.Stepped.{Stepped}
 use Rattle.walk.proofs.StateLaws.{same-trans}
 use Rattle.plainwalk.specs.Steps.{StepWithin}
-use Rattle.plainwalk.proofs.MemoryLaws.{mesh-but, vertex-but, within-then}
+use Rattle.plainwalk.proofs.MemoryLaws.{vertex-but, within-then}
 use Rattle.heapwalk.specs.Steps.{pairState, PairHolds, HeapAnswer}
-use Rattle.lists.proofs.ThoseLaws.{those-all}
-use Rattle.heapwalk.proofs.MovedLaws.{moved-but, queue-moved, fewer-moved, open-moved, kept-moved}
+use Rattle.heapwalk.proofs.QueueFrames.{open-lists, held-lists}
+use Rattle.memory.specs.Layout.{nearFrom, orderFrom, stampsFrom}
 
 -- ---- floats
-
--- two memories that agree from m on agree in each cell from there
-pub past-drop : {A : Type 0} (d : A) (p' p : List A) (m : ℕ) → drop m p' ≡ drop m p → (k : ℕ) → m ≤ k → getD p' k d ≡ getD p k d
-past-drop {A} d p' p m same k past =
-    let there : m + (k - m) ≡ k = omega arith in
-    ap (λ (i : ℕ). getD p' i d) (sym there)
-    ∙ sym (getD-drop m p' (k - m) d)
-    ∙ ap (λ (l : List A). getD l (k - m) d) same
-    ∙ getD-drop m p (k - m) d
-    ∙ ap (λ (i : ℕ). getD p i d) there
 
 -- the mesh: on the floats of its points
 pub mesh-floats : (v f : ℕ) (w : List ℕ) {p q p' q' : List Float} {up-p up-q : ℕ} → FloatsBut (3 * v) up-p p p' → FloatsBut (10 * v) up-q q q' →
@@ -93,28 +80,16 @@ answer-before {v} {f} {s} {t} {limit = limit} {bound = bound} {a = a} {b = b} wi
 
 -- the state: on the cells below those of near and far, and on the entries
 module _ {v f : ℕ} {w : List ℕ} {p q : List Float} {n lo hi : ℕ} {bound : Float} {w' : List ℕ}
-    (before : Open v f w p q n bound) (but : But lo hi w w') (above : 13 * f + 4 * v ≤ lo) (up : hi ≤ 15 * f + 5 * v) where
-  order-but : (i : ℕ) → i < 3 * f → slotAt v f w' i ≡ slotAt v f w i
-  order-but i l = but .over (15 * f + 5 * v + i) (omega arith)
-
+    (before : Open v f w p q n bound) (but : But lo hi w w') (above : nearFrom v f ≤ lo) (up : hi ≤ orderFrom v f) where
   pub open-pairs-but : openIn v f w' n ≡ openIn v f w n
-  open-pairs-but =
-      open-moved (moved-but p q but above (omega arith)) (before .queue) (before .kept) order-but
-      ∙ those-all (openIn v f w n)
+  open-pairs-but = open-lists but above up before
 
   pub pair-state-but : (x : Pair) → pairState v f w' p q n x ≡ pairState v f w p q n x
   unfolding pairState
   pair-state-but x = rw (mesh-but v f p q but (omega arith), open-pairs-but)
 
   pub open-but : Open v f w' p q n bound
-  open-but =
-      let moved = moved-but p q but above (omega arith) in
-      record {
-        tidy = tidy-but (omega arith) but (before .tidy);
-        places-long = before .places-long;
-        queue = queue-moved moved (before .queue) order-but (but .same-length) refl;
-        kept = kept-moved moved (before .queue) (before .kept) (fewer-moved moved (before .queue) order-but);
-      }
+  open-but = held-lists but above up before
 
 module _ {v f : ℕ} {w : List ℕ} {p q : List Float} {n live : ℕ} {bound : Float} {keep remove : ℕ} {place : Point}
     (h : PairHolds v f w p q n live bound keep remove place) where
@@ -136,7 +111,7 @@ module _ {v f : ℕ} {w : List ℕ} {p q : List Float} {n live : ℕ} {bound : F
   pair-shared = open-shared (pairState v f w p q n (pairOf keep remove)) (h .held .sound) (pairOf keep remove) pair-open
 
   -- cells of near and far may change
-  pub pair-but : {lo hi : ℕ} {w' : List ℕ} → But lo hi w w' → 13 * f + 4 * v ≤ lo → hi ≤ 15 * f + 5 * v →
+  pub pair-but : {lo hi : ℕ} {w' : List ℕ} → But lo hi w w' → nearFrom v f ≤ lo → hi ≤ orderFrom v f →
       PairHolds v f w' p q n live bound keep remove place
   pair-but {lo} {hi} {w'} but above up = record {
     held =
@@ -144,7 +119,7 @@ module _ {v f : ℕ} {w : List ℕ} {p q : List Float} {n live : ℕ} {bound : F
           «open» = open-but (h .held .«open») but above up;
           sound = rw (pair-state-but (h .held .«open») but above up (pairOf keep remove)) (h .held .sound);
           counted = h .held .counted ∙ ap length (sym (live-faces-but f but (omega arith)));
-          young = λ x l. rw (but .under (7 * f + 3 * v + x) (omega arith)) (h .held .young x l);
+          young = λ x l. rw (but .under (stampsFrom v f + x) (omega arith)) (h .held .young x l);
         };
     same-place =
         h .same-place

@@ -15,7 +15,8 @@ use Rattle.walk.specs.declared.Pair.{Pair}
 use Rattle.lists.specs.Lists.{sum, some, those, below}
 use Rattle.walk.specs.Points.{Mesh}
 use Rattle.walk.specs.Walk.{started}
-use Rattle.lists.proofs.SumLaws.{sum-append, sum-flatMap, sum-length, sum-below}
+use Rattle.lists.proofs.SumLaws.{sum-append, sum-flatMap, sum-length}
+use Rattle.lists.proofs.BelowLaws.{sum-below, sum-partial}
 use Rattle.mesh.specs.Contracts.Chains.{Tidy}
 use Rattle.lists.proofs.FrameLaws.{but-then, but-widen}
 use Rattle.mesh.proofs.TidyLaws.{tidy-but}
@@ -23,14 +24,14 @@ use Rattle.memory.specs.Points.{meshOf}
 use Rattle.meaning.specs.Arithmetic.{rulesOf}
 use Rattle.openpairs.proofs.MeshLaws.{mesh-points}
 use Rattle.openpairs.specs.Contracts.Edges.{risingFrom}
-use Rattle.openpairs.proofs.WaitLaws.{sum-partial}
-use Rattle.openpairs.proofs.AddLaws.{mesh-but}
+use Rattle.memory.proofs.MeshLaws.{mesh-but}
 use Rattle.openpairs.proofs.StartLaws.{started-few, rising-sum}
 use Rattle.queue.specs.State.{openIn}
 use Rattle.queue.specs.Contracts.Changes.{Emptied}
 use Rattle.heapwalk.specs.Contracts.Entering.{Open, Entered, Started}
 use Rattle.heapwalk.proofs.QueueFrames.{mesh-stays}
 use Rattle.heapwalk.proofs.EnterLaws.{entered-none, entered-then, entered-as, entered-length}
+use Rattle.memory.specs.Layout.{placesTo, stampsFrom}
 
 -- no entry, no open pair
 open-none : (v f : ℕ) (w : List ℕ) → openIn v f w 0 ≡ []
@@ -41,7 +42,7 @@ open-none v f w = refl
 abbrev pub risingBelow : (v f : ℕ) (w : List ℕ) (p q : List Float) (limit : Limit) (bound : Float) → ℕ → List Pair
 risingBelow v f w p q limit bound x = flatMap (risingFrom (rulesOf limit bound) (meshOf v f w p q)) (below x)
 
-module _ {v f : ℕ} {w w₀ : List ℕ} {p q : List Float} (tidy : Tidy v f w) (emptied : Emptied v f w q w₀) (places-long : 3 * v + 9 * f ≤ length p)
+module _ {v f : ℕ} {w w₀ : List ℕ} {p q : List Float} (tidy : Tidy v f w) (emptied : Emptied v f w q w₀) (places-long : placesTo v f ≤ length p)
     (limit : Limit) (bound : Float) where
   -- an empty queue knows all that it should
   emptied-open : Open v f w₀ p q 0 bound
@@ -117,7 +118,7 @@ module _ {v f : ℕ} {w w₀ : List ℕ} {p q : List Float} (tidy : Tidy v f w) 
           points-but = put .points-but;
           quadrics-but = put .quadrics-but;
           «open» = done .«open»;
-          stamps = λ y l. put .but .under (7 * f + 3 * v + y) (omega arith) ∙ emptied .stamps y l;
+          stamps = λ y l. put .but .under (stampsFrom v f + y) (omega arith) ∙ emptied .stamps y l;
           sums = λ g.
               put .sums g
               ∙ ap₂ _+_ (ap (λ (ps : List Pair). sum g ps) (open-none v f w₀)) (sum-flatMap g from (below x))

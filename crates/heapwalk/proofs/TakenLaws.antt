@@ -1,6 +1,6 @@
 -- The first current entry is taken off the queue: its pair is the least open one, so the answer is the plain walk's.
 -- Assumes nothing.
-use Prim.Native.Nat.{ℕ, _+_, _*_, _≤_, _<_}
+use Prim.Native.Nat.{ℕ, _+_, _≤_, _<_}
 use native.Mathlib.Nat.{add-comm}
 use native.Mathlib.Omega.{arith}
 use mathlib.Core.Path.{_≡_, sym, ap, ap₂, _∙_}
@@ -17,7 +17,7 @@ use Rattle.lists.specs.Lists.{sum, count}
 use Rattle.walk.specs.Pairs.{samePair, order}
 use Rattle.walk.specs.Walk.{tried, answer, SameState}
 use Rattle.lists.proofs.TestLaws.{by-test}
-use Rattle.lists.proofs.SumLaws.{some-count}
+use Rattle.lists.proofs.EveryLaws.{some-count, every-kept}
 use Rattle.walk.proofs.SamePairs.{pair-path, same-self}
 use Rattle.walk.proofs.LeastLaws.{notAbove, IsLeast, chosen-is}
 use Rattle.walk.proofs.BagWalk.{sound-fitting}
@@ -26,7 +26,7 @@ use Rattle.mesh.proofs.TidyLaws.{tidy-but}
 use Rattle.mesh.proofs.AroundLaws.{live-faces-but}
 use Rattle.memory.specs.Points.{meshOf}
 use Rattle.meaning.specs.Arithmetic.{rulesOf}
-use Rattle.memory.proofs.MeshLaws.{mesh-length}
+use Rattle.memory.proofs.MeshLaws.{mesh-length, mesh-but}
 use Rattle.memory.specs.Entries.{pairAt, slotAt, queued}
 use Rattle.openpairs.specs.Contracts.Ranks.{rankedAt}
 use Rattle.openpairs.proofs.LeastLaws.{order-rank}
@@ -37,12 +37,13 @@ use Rattle.queue.specs.declared.Taken.the-variants.{Entry, Empty}
 use Rattle.queue.specs.Contracts.Changes.{TakenOff, NoneLeft, TookCurrent}
 use Rattle.plainwalk.specs.declared.Stepped.{Stepped}
 use Rattle.walk.proofs.StateLaws.{sound-bag}
-use Rattle.plainwalk.proofs.MemoryLaws.{mesh-but, vertex-but, within-but}
+use Rattle.plainwalk.proofs.MemoryLaws.{vertex-but, within-but}
 use Rattle.heapwalk.specs.Steps.{pairState, topState, HeapHolds, TopHolds, TopTried, HeapStepDone}
-use Rattle.lists.proofs.ThoseLaws.{every-below, every-kept}
-use Rattle.heapwalk.proofs.SlotLaws.{place-queued}
-use Rattle.heapwalk.proofs.MovedLaws.{Moved, moved-but, kept-moved}
+use Rattle.lists.proofs.BelowLaws.{every-below}
+use Rattle.queue.proofs.OrderLaws.{place-queued}
+use Rattle.queue.proofs.MovedLaws.{Moved, moved-but, kept-moved}
 use Rattle.heapwalk.proofs.MemoryLaws.{answer-before}
+use Rattle.memory.specs.Layout.{stampsFrom}
 
 -- what was taken off, by the answer
 module _ {v f : ℕ} {w : List ℕ} {q : List Float} {n : ℕ} {w' : List ℕ} {r : Taken} where
@@ -98,7 +99,7 @@ module _ {v f : ℕ} {w : List ℕ} {p q : List Float} {n live : ℕ} {bound : F
                     };
                 sound = sound-bag top-state (h .sound);
                 counted = h .counted ∙ ap length (sym (live-faces-but f (taken .but) (omega arith)));
-                young = λ x l. rw (taken .but .under (7 * f + 3 * v + x) (omega arith)) (h .young x l);
+                young = λ x l. rw (taken .but .under (stampsFrom v f + x) (omega arith)) (h .young x l);
               };
           slot = taken .slot;
           place =
@@ -142,7 +143,7 @@ module _ {v f : ℕ} {w : List ℕ} {p q : List Float} {n live : ℕ} {bound : F
               not-above t (and-elim-left (isQueued v f w n t) (follows t) passes) now
               (leb-true (rankIn v f w q s) (rankIn v f w q t) (rw now at (and-elim-right (isQueued v f w n t) (follows t) passes))))
               (queued v f w n)
-              (every-below (λ t. isQueued v f w n t && follows t) (slotAt v f w) n (λ i l. and-intro (place-queued v f w n i l) (place-follows i l)));
+              (every-below (λ t. isQueued v f w n t && follows t) (slotAt v f w) n (λ i l. and-intro (place-queued v f w l) (place-follows i l)));
         }
 
     -- so before the target it is the plain walk's answer that is given

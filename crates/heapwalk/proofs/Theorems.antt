@@ -1,7 +1,7 @@
 -- Demand 3: the heap walk is the plain walk. Its step answers what the plain walk's step answers, three entries for each face are always room enough, and
 -- the two walks make the same folds in the same order and leave the same mesh.
 -- Assumes nothing.
-use Prim.Native.Nat.{ℕ, _+_, _*_, _^_, _≤_}
+use Prim.Native.Nat.{ℕ, _+_, _*_, _≤_}
 use native.Mathlib.Omega.{arith}
 use mathlib.Core.Path.{_≡_, sym, _∙_}
 use mathlib.Core.List.{List}
@@ -12,11 +12,9 @@ use Rattle.walk.specs.declared.Pair.{Pair}
 use Rattle.walk.specs.Walk.{folded, after, SameState}
 use Rattle.walk.proofs.SoundLaws.{isOpen}
 use Rattle.lists.proofs.BagLaws.{bag-sym}
-use Rattle.walk.proofs.BagWalk.{answer-bag, step-bag, sound-fitting}
 use Rattle.walk.proofs.StepLaws.{open-bound, fold-room}
 use Rattle.memory.specs.Points.{meshOf}
 use Rattle.meaning.specs.Arithmetic.{rulesOf}
-use Rattle.memory.proofs.MeshLaws.{mesh-length}
 use Rattle.openpairs.specs.State.{stateOf}
 use Rattle.queue.specs.State.{openIn, heapState}
 use Rattle.plainwalk.specs.declared.Stepped.{Stepped}
@@ -24,7 +22,9 @@ use Rattle.plainwalk.specs.declared.Walked.{Walked}
 use Rattle.plainwalk.specs.Steps.{answerOf, StepDone}
 use Rattle.memory.specs.Entries.{foldsIn}
 use Rattle.plainwalk.specs.Whole.{WalkDone}
-use Rattle.walk.proofs.StateLaws.{same-trans}
+use Rattle.walk.proofs.StateLaws.{SoundFew, plain-alike, same-trans}
+use Rattle.plainwalk.proofs.LentLaws.{lent, points-few}
+use Rattle.heapwalk.proofs.HoldLaws.{byHeap}
 use Rattle.plainwalk.proofs.MemoryLaws.{live-few}
 use Rattle.heapwalk.specs.Steps.{HeapHolds, HeapStepDone}
 
@@ -44,23 +44,22 @@ module _ {v f : ℕ} {w : List ℕ} {p q : List Float} {n live : ℕ} {bound : F
 
 -- ---- the step
 
-points-few : {v f : ℕ} {w : List ℕ} {p q : List Float} {n live : ℕ} {bound : Float} → HeapHolds v f w p q n live bound →
-    length (heapState v f w p q n .mesh .points) ≤ 2 ^ 32
-unfolding heapState
-points-few {v} {f} {w} {p} {q} h = omega (arith, mesh-length v f w p q, h .«open» .tidy .room)
-
 module _ {v f : ℕ} {w u : List ℕ} {p q a b : List Float} {n m live : ℕ} (target : ℕ) {limit : Limit} {bound : Float} {w' u' : List ℕ} {p' q' a' b' : List Float} {r s : Stepped}
     (h : HeapHolds v f w p q n live bound) (same : SameState (heapState v f w p q n) (stateOf v f u a b m))
     (heap : HeapStepDone v f w p q n target limit bound w' p' q' r) (plain : StepDone v f u a b m target limit bound u' a' b' s) where
+  -- the state is sound, and its points can be numbered
+  fit : SoundFew (heapState v f w p q n)
+  fit = (h .sound, points-few (byHeap v f bound) (lent w p q n live) h)
+
   -- from the same state both steps give the same answer
   pub same-step : answerOf (r .step) ≡ answerOf (s .step)
-  same-step = heap .same-answer ∙ answer-bag (rulesOf limit bound) same target (sound-fitting (h .sound) (points-few h)) ∙ sym (plain .same-answer)
+  same-step = heap .same-answer ∙ plain-alike (rulesOf limit bound) target f .same-answer fit same ∙ sym (plain .same-answer)
 
   -- and come to the same state
   pub same-state-after : SameState (heapState v f w' p' q' (r .«open»)) (stateOf v f u' a' b' (s .«open»))
   same-state-after =
       same-trans (heap .same-state)
-      (same-trans (step-bag (rulesOf limit bound) same target (sound-fitting (h .sound) (points-few h)))
+      (same-trans (plain-alike (rulesOf limit bound) target f .same-step fit same)
       (record { same-mesh = sym (plain .same-state .same-mesh); same-open = bag-sym (plain .same-state .same-open) }))
 
 -- ---- the walks

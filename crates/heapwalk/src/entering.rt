@@ -11,8 +11,10 @@ ghost use Rattle.queue.specs.State.{openIn};
 ghost use Rattle.memory.specs.Memory.{aroundIn};
 ghost use Rattle.heapwalk.specs.Contracts.Entering.{Open, Entered, Started};
 ghost use Rattle.heapwalk.specs.Contracts.Listing.{pairsWith, Enterable, EnteredBeside};
+ghost use Rattle.memory.specs.Layout.{costsTo, placesTo};
 use memory::vertex_at;
-use placement::Limit;
+use placement::Bounds;
+use placement::Fold;
 use placement::pair::Candidate;
 use placement::pair::pair_candidate;
 
@@ -26,16 +28,23 @@ fn enter_pair(
     n: usize,
     x: u32,
     y: u32,
-    limit: Limit,
-    bound: f32,
+    bounds: Bounds,
 ) -> usize
-    requires { ⌜ Enterable v f (now w) (now p) (now q) n limit bound x (y ∷ []) ⌝ }
-    ensures { λ r. ⌜ EnteredBeside v f (now (w .entry)) (now (p .entry)) (now (q .entry)) n bound (pairsWith v f (now (w .entry)) (now (p .entry)) (now (q .entry)) limit bound x (y ∷ [])) (now (w .exit)) (now (p .exit)) (now (q .exit)) r ⌝ }
+    requires { ⌜ Enterable v f (now w) (now p) (now q) n (bounds .limit) (bounds .size) x (y ∷ []) ⌝ }
+    ensures { λ r. ⌜ EnteredBeside v f (now (w .entry)) (now (p .entry)) (now (q .entry)) n (bounds .size) (pairsWith v f (now (w .entry)) (now (p .entry)) (now (q .entry)) (bounds .limit) (bounds .size) x (y ∷ [])) (now (w .exit)) (now (p .exit)) (now (q .exit)) r ⌝ }
 {
     let stays = vertex_at(w, p, q, v, f, x as usize);
     let goes = vertex_at(w, p, q, v, f, y as usize);
-    match pair_candidate(stays, goes, limit, bound) {
-        Candidate::Eligible(cost, place) => queue::push(w, p, q, v, f, n, x, y, cost, place),
+    let limit = bounds.limit;
+    match pair_candidate(stays, goes, limit, bounds.size) {
+        Candidate::Eligible(cost, place) => {
+            let fold = Fold {
+                keep: x,
+                remove: y,
+                place,
+            };
+            queue::push(w, p, q, v, f, n, fold, cost)
+        },
         Candidate::Ineligible => n,
     }
 }
@@ -50,17 +59,16 @@ fn enter_listed(
     n: usize,
     x: u32,
     count: usize,
-    limit: Limit,
-    bound: f32,
+    bounds: Bounds,
 ) -> usize
-    requires { ⌜ Enterable v f (now w) (now p) (now q) n limit bound x (aroundIn v f (now w) count) ⌝ ∗ ⌜ count ≤ v ⌝ }
-    ensures { λ r. ⌜ EnteredBeside v f (now (w .entry)) (now (p .entry)) (now (q .entry)) n bound (pairsWith v f (now (w .entry)) (now (p .entry)) (now (q .entry)) limit bound x (aroundIn v f (now (w .entry)) count)) (now (w .exit)) (now (p .exit)) (now (q .exit)) r ⌝ }
+    requires { ⌜ Enterable v f (now w) (now p) (now q) n (bounds .limit) (bounds .size) x (aroundIn v f (now w) count) ⌝ ∗ ⌜ count ≤ v ⌝ }
+    ensures { λ r. ⌜ EnteredBeside v f (now (w .entry)) (now (p .entry)) (now (q .entry)) n (bounds .size) (pairsWith v f (now (w .entry)) (now (p .entry)) (now (q .entry)) (bounds .limit) (bounds .size) x (aroundIn v f (now (w .entry)) count)) (now (w .exit)) (now (p .exit)) (now (q .exit)) r ⌝ }
 {
     let mut entries = n;
     let mut i = 0;
     while i < count {
-        let y = w[15 * f + 4 * v + i];
-        entries = enter_pair(w, p, q, v, f, entries, x, y, limit, bound);
+        let y = memory::around_at(w, v, f, i);
+        entries = enter_pair(w, p, q, v, f, entries, x, y, bounds);
         i += 1;
     }
     entries
@@ -76,15 +84,14 @@ pub fn enter_around(
     n: usize,
     rising: bool,
     x: u32,
-    limit: Limit,
-    bound: f32,
+    bounds: Bounds,
 ) -> usize
-    requires { ⌜ Open v f (now w) (now p) (now q) n bound ⌝ ∗ ⌜ x < v ⌝ }
-    requires { ⌜ length (openIn v f (now w) n) + length (openedAround (rulesOf limit bound) (meshOf v f (now w) (now p) (now q)) rising x) ≤ 3 * f ⌝ }
-    ensures { λ r. ⌜ Entered v f (now (w .entry)) (now (p .entry)) (now (q .entry)) n bound (openedAround (rulesOf limit bound) (meshOf v f (now (w .entry)) (now (p .entry)) (now (q .entry))) rising x) (now (w .exit)) (now (p .exit)) (now (q .exit)) r ⌝ }
+    requires { ⌜ Open v f (now w) (now p) (now q) n (bounds .size) ⌝ ∗ ⌜ x < v ⌝ }
+    requires { ⌜ length (openIn v f (now w) n) + length (openedAround (rulesOf (bounds .limit) (bounds .size)) (meshOf v f (now w) (now p) (now q)) rising x) ≤ 3 * f ⌝ }
+    ensures { λ r. ⌜ Entered v f (now (w .entry)) (now (p .entry)) (now (q .entry)) n (bounds .size) (openedAround (rulesOf (bounds .limit) (bounds .size)) (meshOf v f (now (w .entry)) (now (p .entry)) (now (q .entry))) rising x) (now (w .exit)) (now (p .exit)) (now (q .exit)) r ⌝ }
 {
     let count = ring::list_around(w, v, f, rising, x);
-    enter_listed(w, p, q, v, f, n, x, count, limit, bound)
+    enter_listed(w, p, q, v, f, n, x, count, bounds)
 }
 
 // At the start: an empty queue, and then each pair that a face edge runs along from its lower to its higher number. Says how many entries there are.
@@ -94,17 +101,16 @@ pub fn enter_start(
     q: &mut [f64],
     v: usize,
     f: usize,
-    limit: Limit,
-    bound: f32,
+    bounds: Bounds,
 ) -> usize
-    requires { ⌜ Tidy v f (now w) ⌝ ∗ ⌜ 3 * v + 9 * f ≤ length (now p) ⌝ ∗ ⌜ 10 * v + 3 * f ≤ length (now q) ⌝ }
-    ensures { λ r. ⌜ Started v f (now (w .entry)) (now (p .entry)) (now (q .entry)) bound (started (rulesOf limit bound) (meshOf v f (now (w .entry)) (now (p .entry)) (now (q .entry))) .«open») (now (w .exit)) (now (p .exit)) (now (q .exit)) r ⌝ }
+    requires { ⌜ Tidy v f (now w) ⌝ ∗ ⌜ placesTo v f ≤ length (now p) ⌝ ∗ ⌜ costsTo v f ≤ length (now q) ⌝ }
+    ensures { λ r. ⌜ Started v f (now (w .entry)) (now (p .entry)) (now (q .entry)) (bounds .size) (started (rulesOf (bounds .limit) (bounds .size)) (meshOf v f (now (w .entry)) (now (p .entry)) (now (q .entry))) .«open») (now (w .exit)) (now (p .exit)) (now (q .exit)) r ⌝ }
 {
     queue::empty(w, q, v, f);
     let mut n = 0;
     let mut x = 0;
     while x < v {
-        n = enter_around(w, p, q, v, f, n, true, x as u32, limit, bound);
+        n = enter_around(w, p, q, v, f, n, true, x as u32, bounds);
         x += 1;
     }
     n

@@ -1,6 +1,6 @@
 // The heap walk: the same folds as the plain walk, in the same order, with the open pairs in a queue.
 ghost use mathlib.Core.Path.{_≡_};
-ghost use Prim.Native.Nat.{_+_, _*_, _≤_};
+ghost use Prim.Native.Nat.{_+_, _≤_};
 ghost use lib.ListN.{length};
 ghost use Rattle.walk.specs.Pairs.{pairOf};
 ghost use Rattle.walk.specs.Walk.{folded, tried};
@@ -9,18 +9,20 @@ ghost use Rattle.mesh.specs.Contracts.Chains.{Tidy};
 ghost use Rattle.memory.specs.Points.{meshOf};
 ghost use Rattle.meaning.specs.Arithmetic.{rulesOf};
 ghost use Rattle.queue.specs.State.{heapState};
-ghost use Rattle.plainwalk.specs.Steps.{Listed};
 ghost use Rattle.plainwalk.specs.Whole.{WalkedFrom, WalkDone};
+ghost use Rattle.ring.specs.Contracts.Rings.{Ringed};
 ghost use Rattle.heapwalk.specs.Steps.{PairHolds, PairAnswer, HeapHolds, TopHolds, TopTried, HeapStepDone};
+ghost use Rattle.memory.specs.Layout.{costsTo, placesTo};
 
 mod entering;
 
-use geometry::Point;
-use placement::Limit;
+use placement::Bounds;
+use placement::Fold;
 use plainwalk::Step;
 use plainwalk::Stepped;
 use plainwalk::Walked;
 use queue::Taken;
+use ring::Ring;
 use walk::Pair;
 
 // Folds the pair of the entry that was taken off: the mesh, then both stamps, then the pairs that the fold opens. The faces around its points are listed.
@@ -32,23 +34,19 @@ fn fold_top(
     f: usize,
     entries: usize,
     live: usize,
-    keep: u32,
-    remove: u32,
-    place: Point,
-    near: usize,
-    n: usize,
-    far: usize,
-    m: usize,
-    limit: Limit,
-    bound: f32,
+    fold: Fold,
+    ring: Ring,
+    bounds: Bounds,
 ) -> Stepped
-    requires { ⌜ PairHolds v f (now w) (now p) (now q) entries live bound keep remove place ⌝ ∗ ⌜ Listed v f (now w) keep remove near n far m ⌝ }
-    ensures { λ r. ⌜ PairAnswer v f (now (w .entry)) (now (p .entry)) (now (q .entry)) entries keep remove limit bound (folded (pairOf keep remove)) (now (w .exit)) (now (p .exit)) (now (q .exit)) r ⌝ }
+    requires { ⌜ PairHolds v f (now w) (now p) (now q) entries live (bounds .size) (fold .keep) (fold .remove) (fold .place) ⌝ ∗ ⌜ Ringed v f (now w) (fold .keep) (fold .remove) ring ⌝ }
+    ensures { λ r. ⌜ PairAnswer v f (now (w .entry)) (now (p .entry)) (now (q .entry)) entries (fold .keep) (fold .remove) (bounds .limit) (bounds .size) (folded (pairOf (fold .keep) (fold .remove))) (now (w .exit)) (now (p .exit)) (now (q .exit)) r ⌝ }
 {
-    let gone = folding::fold_mesh(w, p, q, v, f, keep, remove, place, near, n, far, m);
+    let keep = fold.keep;
+    let remove = fold.remove;
+    let gone = folding::fold_mesh(w, p, q, v, f, fold, ring);
     queue::bump(w, v, f, keep as usize);
     queue::bump(w, v, f, remove as usize);
-    let more = entering::enter_around(w, p, q, v, f, entries, false, keep, limit, bound);
+    let more = entering::enter_around(w, p, q, v, f, entries, false, keep, bounds);
     let left = live - gone;
     Stepped {
         step: Step::Folded(Pair { keep, remove }),
@@ -66,52 +64,23 @@ fn fold_or_close(
     f: usize,
     entries: usize,
     live: usize,
-    keep: u32,
-    remove: u32,
-    place: Point,
-    near: usize,
-    n: usize,
-    far: usize,
-    m: usize,
-    limit: Limit,
-    bound: f32,
+    fold: Fold,
+    ring: Ring,
+    bounds: Bounds,
 ) -> Stepped
-    requires { ⌜ PairHolds v f (now w) (now p) (now q) entries live bound keep remove place ⌝ ∗ ⌜ Listed v f (now w) keep remove near n far m ⌝ }
-    ensures { λ r. ⌜ PairAnswer v f (now (w .entry)) (now (p .entry)) (now (q .entry)) entries keep remove limit bound (tried (rulesOf limit bound) (meshOf v f (now (w .entry)) (now (p .entry)) (now (q .entry))) (pairOf keep remove)) (now (w .exit)) (now (p .exit)) (now (q .exit)) r ⌝ }
+    requires { ⌜ PairHolds v f (now w) (now p) (now q) entries live (bounds .size) (fold .keep) (fold .remove) (fold .place) ⌝ ∗ ⌜ Ringed v f (now w) (fold .keep) (fold .remove) ring ⌝ }
+    ensures { λ r. ⌜ PairAnswer v f (now (w .entry)) (now (p .entry)) (now (q .entry)) entries (fold .keep) (fold .remove) (bounds .limit) (bounds .size) (tried (rulesOf (bounds .limit) (bounds .size)) (meshOf v f (now (w .entry)) (now (p .entry)) (now (q .entry))) (pairOf (fold .keep) (fold .remove))) (now (w .exit)) (now (p .exit)) (now (q .exit)) r ⌝ }
 {
-    if foldtest::is_allowed(w, p, v, f, keep, remove, place, near, n, far, m) {
-        return fold_top(
-            w,
-            p,
-            q,
-            v,
-            f,
-            entries,
-            live,
-            keep,
-            remove,
-            place,
-            near,
-            n,
-            far,
-            m,
-            limit,
-            bound,
-        );
+    if foldtest::is_allowed(w, p, v, f, fold, ring) {
+        return fold_top(w, p, q, v, f, entries, live, fold, ring, bounds);
     }
+    let keep = fold.keep;
+    let remove = fold.remove;
     Stepped {
         step: Step::Closed(Pair { keep, remove }),
         open: entries,
         live,
     }
-}
-
-// Where the faces around a pair's two points are listed, first those around keep.
-fn near_from(v: usize, f: usize) -> usize
-    requires { ⌜ (v ≤ 65536) × (f ≤ 131072) ⌝ }
-    ensures { λ r. ⌜ r ≡ 13 * f + 4 * v ⌝ }
-{
-    13 * f + 4 * v
 }
 
 // Tries a pair that is off the queue, with the faces around its two points listed first.
@@ -123,37 +92,14 @@ fn try_pair(
     f: usize,
     entries: usize,
     live: usize,
-    keep: u32,
-    remove: u32,
-    place: Point,
-    limit: Limit,
-    bound: f32,
+    fold: Fold,
+    bounds: Bounds,
 ) -> Stepped
-    requires { ⌜ PairHolds v f (now w) (now p) (now q) entries live bound keep remove place ⌝ }
-    ensures { λ r. ⌜ PairAnswer v f (now (w .entry)) (now (p .entry)) (now (q .entry)) entries keep remove limit bound (tried (rulesOf limit bound) (meshOf v f (now (w .entry)) (now (p .entry)) (now (q .entry))) (pairOf keep remove)) (now (w .exit)) (now (p .exit)) (now (q .exit)) r ⌝ }
+    requires { ⌜ PairHolds v f (now w) (now p) (now q) entries live (bounds .size) (fold .keep) (fold .remove) (fold .place) ⌝ }
+    ensures { λ r. ⌜ PairAnswer v f (now (w .entry)) (now (p .entry)) (now (q .entry)) entries (fold .keep) (fold .remove) (bounds .limit) (bounds .size) (tried (rulesOf (bounds .limit) (bounds .size)) (meshOf v f (now (w .entry)) (now (p .entry)) (now (q .entry))) (pairOf (fold .keep) (fold .remove))) (now (w .exit)) (now (p .exit)) (now (q .exit)) r ⌝ }
 {
-    let near = near_from(v, f);
-    let far = near + f;
-    let n = mesh::collect(w, v, f, keep as usize, near);
-    let m = mesh::collect(w, v, f, remove as usize, far);
-    fold_or_close(
-        w,
-        p,
-        q,
-        v,
-        f,
-        entries,
-        live,
-        keep,
-        remove,
-        place,
-        near,
-        n,
-        far,
-        m,
-        limit,
-        bound,
-    )
+    let ring = ring::gather(w, v, f, fold.keep, fold.remove);
+    fold_or_close(w, p, q, v, f, entries, live, fold, ring, bounds)
 }
 
 // Tries the pair of the entry that was taken off, in slot s: it is folded where that is allowed, and else closed.
@@ -166,29 +112,20 @@ fn try_top(
     entries: usize,
     live: usize,
     s: usize,
-    limit: Limit,
-    bound: f32,
+    bounds: Bounds,
 ) -> Stepped
-    requires { ⌜ TopHolds v f (now w) (now p) (now q) entries live bound s ⌝ }
-    ensures { λ r. ⌜ TopTried v f (now (w .entry)) (now (p .entry)) (now (q .entry)) entries s limit bound (now (w .exit)) (now (p .exit)) (now (q .exit)) r ⌝ }
+    requires { ⌜ TopHolds v f (now w) (now p) (now q) entries live (bounds .size) s ⌝ }
+    ensures { λ r. ⌜ TopTried v f (now (w .entry)) (now (p .entry)) (now (q .entry)) entries s (bounds .limit) (bounds .size) (now (w .exit)) (now (p .exit)) (now (q .exit)) r ⌝ }
 {
-    let keep = openpairs::keep_at(w, v, f, s);
-    let remove = openpairs::remove_at(w, v, f, s);
+    let keep = memory::keep_at(w, v, f, s);
+    let remove = memory::remove_at(w, v, f, s);
     let place = memory::point_at(p, v + s);
-    try_pair(
-        w,
-        p,
-        q,
-        v,
-        f,
-        entries,
-        live,
+    let fold = Fold {
         keep,
         remove,
         place,
-        limit,
-        bound,
-    )
+    };
+    try_pair(w, p, q, v, f, entries, live, fold, bounds)
 }
 
 // One step: entries are taken off the top up to the first current one, whose pair is folded or closed. At the target, or with no current entry, the
@@ -202,11 +139,10 @@ pub fn heap_step(
     entries: usize,
     live: usize,
     target: usize,
-    limit: Limit,
-    bound: f32,
+    bounds: Bounds,
 ) -> Stepped
-    requires { ⌜ HeapHolds v f (now w) (now p) (now q) entries live bound ⌝ }
-    ensures { λ r. ⌜ HeapStepDone v f (now (w .entry)) (now (p .entry)) (now (q .entry)) entries target limit bound (now (w .exit)) (now (p .exit)) (now (q .exit)) r ⌝ }
+    requires { ⌜ HeapHolds v f (now w) (now p) (now q) entries live (bounds .size) ⌝ }
+    ensures { λ r. ⌜ HeapStepDone v f (now (w .entry)) (now (p .entry)) (now (q .entry)) entries target (bounds .limit) (bounds .size) (now (w .exit)) (now (p .exit)) (now (q .exit)) r ⌝ }
 {
     if live <= target {
         return Stepped {
@@ -216,7 +152,7 @@ pub fn heap_step(
         };
     }
     match queue::take_current(w, q, v, f, entries) {
-        Taken::Entry(s, left) => try_top(w, p, q, v, f, left, live, s, limit, bound),
+        Taken::Entry(s, left) => try_top(w, p, q, v, f, left, live, s, bounds),
         Taken::Empty => Stepped {
             step: Step::Ended,
             open: 0,
@@ -235,23 +171,22 @@ fn walk_on(
     entries: usize,
     live: usize,
     target: usize,
-    limit: Limit,
-    bound: f32,
+    bounds: Bounds,
 ) -> Walked
-    requires { ⌜ HeapHolds v f (now w) (now p) (now q) entries live bound ⌝ }
-    ensures { λ r. ⌜ WalkedFrom v f (heapState v f (now (w .entry)) (now (p .entry)) (now (q .entry)) entries) (now (w .entry)) (now (p .entry)) (now (q .entry)) target limit bound (now (w .exit)) (now (p .exit)) (now (q .exit)) r ⌝ }
+    requires { ⌜ HeapHolds v f (now w) (now p) (now q) entries live (bounds .size) ⌝ }
+    ensures { λ r. ⌜ WalkedFrom v f (heapState v f (now (w .entry)) (now (p .entry)) (now (q .entry)) entries) (now (w .entry)) (now (p .entry)) (now (q .entry)) target (bounds .limit) (bounds .size) (now (w .exit)) (now (p .exit)) (now (q .exit)) r ⌝ }
 {
     let mut queued = entries;
     let mut faces_live = live;
     let mut folds = 0;
     loop {
-        let stepped = heap_step(w, p, q, v, f, queued, faces_live, target, limit, bound);
+        let stepped = heap_step(w, p, q, v, f, queued, faces_live, target, bounds);
         queued = stepped.open;
         faces_live = stepped.live;
         let step = stepped.step;
         match step {
             Step::Folded(pair) => {
-                plainwalk::note_fold(w, v, f, folds, pair);
+                memory::note_fold(w, v, f, folds, pair);
                 folds += 1;
             }
             Step::Closed(_) => {}
@@ -273,12 +208,11 @@ pub fn heap_walk(
     v: usize,
     f: usize,
     target: usize,
-    limit: Limit,
-    bound: f32,
+    bounds: Bounds,
 ) -> Walked
-    requires { ⌜ Tidy v f (now w) ⌝ ∗ ⌜ length (liveFaces f (now w)) ≡ f ⌝ ∗ ⌜ 3 * v + 9 * f ≤ length (now p) ⌝ ∗ ⌜ 10 * v + 3 * f ≤ length (now q) ⌝ }
-    ensures { λ r. ⌜ WalkDone v f (now (w .entry)) (now (p .entry)) (now (q .entry)) target limit bound (now (w .exit)) (now (p .exit)) (now (q .exit)) r ⌝ }
+    requires { ⌜ Tidy v f (now w) ⌝ ∗ ⌜ length (liveFaces f (now w)) ≡ f ⌝ ∗ ⌜ placesTo v f ≤ length (now p) ⌝ ∗ ⌜ costsTo v f ≤ length (now q) ⌝ }
+    ensures { λ r. ⌜ WalkDone v f (now (w .entry)) (now (p .entry)) (now (q .entry)) target (bounds .limit) (bounds .size) (now (w .exit)) (now (p .exit)) (now (q .exit)) r ⌝ }
 {
-    let entries = entering::enter_start(w, p, q, v, f, limit, bound);
-    walk_on(w, p, q, v, f, entries, f, target, limit, bound)
+    let entries = entering::enter_start(w, p, q, v, f, bounds);
+    walk_on(w, p, q, v, f, entries, f, target, bounds)
 }

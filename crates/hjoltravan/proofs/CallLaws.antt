@@ -1,20 +1,24 @@
--- An answered call, told in five numbers, is what the C interface states.
+-- A call of the entry, told in five numbers, is what the C interface states.
+-- Assumes nothing.
 use Prim.Native.Nat.{ℕ}
-use mathlib.Core.Path.{_≡_, refl, ap, _∙_}
+use mathlib.Core.Path.{_≡_, ap, _∙_}
 use mathlib.Core.List.{List}
-use mathlib.Core.Bool.{Bool}
-use lib.Ieee.{Float}
-use Rattle.meaning.specs.Input.{Input}
 use Rattle.meaning.specs.declared.Answer.{Answer}
-use Rattle.meaning.specs.Call.{Answered}
-use Rattle.hjoltravan.specs.Calls.{fiveOf, Called}
+use Rattle.meaning.specs.declared.Options.{Options}
+use Rattle.meaning.specs.Input.{Input}
+use Rattle.meaning.specs.Call.{Lent, Thinned}
+use Rattle.hjoltravan.specs.Calls.{fiveOf, Called, CalledWithFolds}
 
-pub called : {i : Input} {preserve : Bool}
-    {points : List Float} {faces : List ℕ} {u : List ℕ} {p q : List Float}
-    {points' : List Float} {faces' : List ℕ} {u' : List ℕ} {p' q' : List Float} {r : Answer} {five : List ℕ}
-    → Answered i preserve points faces u p q points' faces' u' p' q' r → five ≡ fiveOf r → Called i preserve points faces u p q points' faces' u' p' q' five
-called a told =
-    record {
-      told = told ∙ ap fiveOf (a .answered);
-      left = record { answered = refl; points-out = a .points-out; faces-out = a .faces-out; u32s-left = a .u32s-left; f32s-left = a .f32s-left; f64s-left = a .f64s-left };
-    }
+-- for options that are the ones asked for
+module _ {made asked : Options} (input : Options → Input) {before after : Lent} {folds folds' five : List ℕ} {r : Answer}
+    (same : made ≡ asked) (thinned : Thinned (input made) before after folds folds' r) (told : five ≡ fiveOf r) where
+  -- with the folds
+  pub called-with-folds : CalledWithFolds (input asked) before after folds folds' five
+  called-with-folds =
+      let here : Thinned (input asked) before after folds folds' r = rw same at thinned in
+      let answer = here .answered .answered in
+      record { told = told ∙ ap fiveOf answer; left = rw answer at here }
+
+  -- and without
+  pub called : Called (input asked) before after five
+  called = record { told = called-with-folds .told; left = called-with-folds .left .answered }

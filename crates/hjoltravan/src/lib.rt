@@ -3,19 +3,21 @@ ghost use mathlib.Core.Path.{_≡_};
 ghost use Rattle.bits.specs.Root.{rootBits};
 ghost use Rattle.bits.specs.Narrow.{narrowBits};
 ghost use Rattle.bits.specs.Order.{orderKey};
-ghost use Rattle.meaning.specs.Call.{inputOf};
-ghost use Rattle.hjoltravan.specs.Calls.{limitOf, fiveOf, Called, FoldsTold};
+ghost use Rattle.meaning.specs.Call.{lent, inputOf};
+ghost use Rattle.hjoltravan.specs.Calls.{optionsOf, fiveOf, Called, CalledWithFolds};
 use meaning::Answer;
-use placement::Limit;
+use meaning::Options;
+use thinning::Engine;
 
-// A limit only where there is one.
-fn limit_of(limited: bool, limit: f32) -> Limit
-    ensures { λ r. ⌜ r ≡ limitOf limited limit ⌝ }
+// The options of a call.
+fn options_of(ratio: f32, preserve: bool, limited: bool, limit: f32) -> Options
+    ensures { λ r. ⌜ r ≡ optionsOf ratio preserve limited limit ⌝ }
 {
-    if limited {
-        Limit::AtMost(limit)
-    } else {
-        Limit::Unlimited
+    let most = placement::limit_of(limited, limit);
+    Options {
+        ratio: ratio,
+        preserve: preserve,
+        limit: most,
     }
 }
 
@@ -42,20 +44,21 @@ pub extern "C" fn hjoltravan_thin(
     work_f64: &mut [f64],
     answer: &mut [u32; 5],
 )
-    ensures { λ _. ⌜ Called (inputOf (now (points .entry)) (now (faces .entry)) ratio (limitOf limited limit) (now («out_points» .entry)) (now («out_faces» .entry)) (now («work_u32» .entry)) (now («work_f32» .entry)) (now («work_f64» .entry))) preserve (now («out_points» .entry)) (now («out_faces» .entry)) (now («work_u32» .entry)) (now («work_f32» .entry)) (now («work_f64» .entry)) (now («out_points» .exit)) (now («out_faces» .exit)) (now («work_u32» .exit)) (now («work_f32» .exit)) (now («work_f64» .exit)) (now (answer .exit)) ⌝ }
+    ensures { λ _. ⌜ Called (inputOf (now (points .entry)) (now (faces .entry)) (optionsOf ratio preserve limited limit) (lent (now («out_points» .entry)) (now («out_faces» .entry)) (now («work_u32» .entry)) (now («work_f32» .entry)) (now («work_f64» .entry)))) (lent (now («out_points» .entry)) (now («out_faces» .entry)) (now («work_u32» .entry)) (now («work_f32» .entry)) (now («work_f64» .entry))) (lent (now («out_points» .exit)) (now («out_faces» .exit)) (now («work_u32» .exit)) (now («work_f32» .exit)) (now («work_f64» .exit))) (now (answer .exit)) ⌝ }
 {
-    let most = limit_of(limited, limit);
+    let options = options_of(ratio, preserve, limited, limit);
+    let mut folds = [0u32; 1];
     let r = thinning::thin(
+        Engine::Heap,
         points,
         faces,
-        ratio,
-        preserve,
-        most,
+        options,
         out_points,
         out_faces,
         work_u32,
         work_f32,
         work_f64,
+        &mut folds,
     );
     tell(answer, r);
 }
@@ -76,20 +79,21 @@ pub extern "C" fn hjoltravan_thin_plain(
     work_f64: &mut [f64],
     answer: &mut [u32; 5],
 )
-    ensures { λ _. ⌜ Called (inputOf (now (points .entry)) (now (faces .entry)) ratio (limitOf limited limit) (now («out_points» .entry)) (now («out_faces» .entry)) (now («work_u32» .entry)) (now («work_f32» .entry)) (now («work_f64» .entry))) preserve (now («out_points» .entry)) (now («out_faces» .entry)) (now («work_u32» .entry)) (now («work_f32» .entry)) (now («work_f64» .entry)) (now («out_points» .exit)) (now («out_faces» .exit)) (now («work_u32» .exit)) (now («work_f32» .exit)) (now («work_f64» .exit)) (now (answer .exit)) ⌝ }
+    ensures { λ _. ⌜ Called (inputOf (now (points .entry)) (now (faces .entry)) (optionsOf ratio preserve limited limit) (lent (now («out_points» .entry)) (now («out_faces» .entry)) (now («work_u32» .entry)) (now («work_f32» .entry)) (now («work_f64» .entry)))) (lent (now («out_points» .entry)) (now («out_faces» .entry)) (now («work_u32» .entry)) (now («work_f32» .entry)) (now («work_f64» .entry))) (lent (now («out_points» .exit)) (now («out_faces» .exit)) (now («work_u32» .exit)) (now («work_f32» .exit)) (now («work_f64» .exit))) (now (answer .exit)) ⌝ }
 {
-    let most = limit_of(limited, limit);
-    let r = thinning::thin_plain(
+    let options = options_of(ratio, preserve, limited, limit);
+    let mut folds = [0u32; 1];
+    let r = thinning::thin(
+        Engine::Plain,
         points,
         faces,
-        ratio,
-        preserve,
-        most,
+        options,
         out_points,
         out_faces,
         work_u32,
         work_f32,
         work_f64,
+        &mut folds,
     );
     tell(answer, r);
 }
@@ -111,16 +115,14 @@ pub extern "C" fn hjoltravan_thin_folds(
     folds: &mut [u32],
     answer: &mut [u32; 5],
 )
-    ensures answer { λ _. ⌜ Called (inputOf (now (points .entry)) (now (faces .entry)) ratio (limitOf limited limit) (now («out_points» .entry)) (now («out_faces» .entry)) (now («work_u32» .entry)) (now («work_f32» .entry)) (now («work_f64» .entry))) preserve (now («out_points» .entry)) (now («out_faces» .entry)) (now («work_u32» .entry)) (now («work_f32» .entry)) (now («work_f64» .entry)) (now («out_points» .exit)) (now («out_faces» .exit)) (now («work_u32» .exit)) (now («work_f32» .exit)) (now («work_f64» .exit)) (now (answer .exit)) ⌝ }
-    ensures folds { λ _. ⌜ FoldsTold (inputOf (now (points .entry)) (now (faces .entry)) ratio (limitOf limited limit) (now («out_points» .entry)) (now («out_faces» .entry)) (now («work_u32» .entry)) (now («work_f32» .entry)) (now («work_f64» .entry))) preserve (now (folds .entry)) (now (folds .exit)) ⌝ }
+    ensures { λ _. ⌜ CalledWithFolds (inputOf (now (points .entry)) (now (faces .entry)) (optionsOf ratio preserve limited limit) (lent (now («out_points» .entry)) (now («out_faces» .entry)) (now («work_u32» .entry)) (now («work_f32» .entry)) (now («work_f64» .entry)))) (lent (now («out_points» .entry)) (now («out_faces» .entry)) (now («work_u32» .entry)) (now («work_f32» .entry)) (now («work_f64» .entry))) (lent (now («out_points» .exit)) (now («out_faces» .exit)) (now («work_u32» .exit)) (now («work_f32» .exit)) (now («work_f64» .exit))) (now (folds .entry)) (now (folds .exit)) (now (answer .exit)) ⌝ }
 {
-    let most = limit_of(limited, limit);
-    let r = thinning::thin_folds(
+    let options = options_of(ratio, preserve, limited, limit);
+    let r = thinning::thin(
+        Engine::Heap,
         points,
         faces,
-        ratio,
-        preserve,
-        most,
+        options,
         out_points,
         out_faces,
         work_u32,

@@ -1,4 +1,2 @@
--- Laws of texts, with no code in sight.
-pub mod StoreLaws
-pub mod DigitLaws
+-- Laws of the listing, with no code in sight.
 pub mod TextLaws

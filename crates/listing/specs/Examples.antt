@@ -4,8 +4,9 @@ use mathlib.Core.Path.{_≡_, refl}
 use mathlib.Core.List.{List, [], _∷_, map}
 use lib.Ieee as ieee
 use lib.Ieee.{binary32, span, climb, size, odd, units, round, ofFields, ofBits, toBits}
-use Rattle.listing.specs.Digits.{digits, places, decimal, eightDigits}
-use Rattle.listing.specs.Texts.{linesTo, refusalText, headText, meshText}
+use Rattle.text.specs.Digits.{digits, digitCount, decimal}
+use Rattle.text.specs.Lines.{linesTo}
+use Rattle.listing.specs.Texts.{refusalText, headText, meshText}
 
 -- the mesh of the example square, thinned by half: four points and two faces
 abbrev squarePoints : List ℕ
@@ -47,10 +48,10 @@ refusalListing = 97 ∷ 110 ∷ 115 ∷ 119 ∷ 101 ∷ 114 ∷ 32 ∷ 49 ∷ 48
 
 -- the listing of the example square
 pub square-listed : meshText 1 1 (map (ofBits binary32) squarePoints) squareFaces ≡ squareListing
-unfolding meshText headText linesTo eightDigits decimal places digits span climb size odd units round ofFields ofBits toBits
+unfolding meshText headText linesTo decimal digitCount digits span climb size odd units round ofFields ofBits toBits
 square-listed = refl
 
 -- the refusal of the same square with preserve on
 pub refusal-listed : refusalText 10 4 ≡ refusalListing
-unfolding refusalText decimal places digits
+unfolding refusalText decimal digitCount digits
 refusal-listed = refl

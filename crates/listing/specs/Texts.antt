@@ -1,25 +1,18 @@
 -- The listing of an answer (document 01, "The program and its file").
-use Prim.Native.Nat.{ℕ, zero, suc, _+_, _*_, _/_}
+use Prim.Native.Nat.{ℕ, _+_, _*_, _/_}
 use mathlib.Core.List.{List, [], _∷_, _++_}
 use mathlib.Core.Bool.{Bool, _&&_}
 use lib.Dec.{leb}
 use lib.ListN.{length, getD}
 use lib.Ieee.{Float, binary32, nan, toBits}
-use Rattle.listing.specs.Digits.{decimal, eightDigits}
+use Rattle.text.specs.Digits.{decimal, hexadecimal}
+use Rattle.text.specs.Lines.{numberThen, wordLine, linesTo}
 
 -- ---- lines
 
--- a number, and the byte after it
-abbrev pub numberThen : ℕ → ℕ → List ℕ
-numberThen n end = decimal n ++ (end ∷ [])
-
 -- a float by its bits, and the byte after it
 abbrev pub floatThen : Float → ℕ → List ℕ
-floatThen x end = eightDigits (toBits binary32 x) ++ (end ∷ [])
-
--- a word and a number, to the end of the line
-abbrev pub wordLine : List ℕ → ℕ → List ℕ
-wordLine word n = word ++ numberThen n 10
+floatThen x end = hexadecimal (toBits binary32 x) ++ (end ∷ [])
 
 -- a point: its three parts
 abbrev pub pointLine : List Float → ℕ → List ℕ
@@ -29,11 +22,6 @@ pointLine points k =
 -- a face: its three points' numbers
 abbrev pub faceLine : List ℕ → ℕ → List ℕ
 faceLine faces k = numberThen (getD faces (3 * k) 0) 32 ++ (numberThen (getD faces (3 * k + 1) 0) 32 ++ numberThen (getD faces (3 * k + 2) 0) 10)
-
--- the first n lines of a kind, one after the other
-unfoldable pub linesTo : (ℕ → List ℕ) → ℕ → List ℕ
-linesTo line zero = []
-linesTo line (suc n) = linesTo line n ++ line n
 
 -- ---- words, each with the space after it
 

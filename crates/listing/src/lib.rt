@@ -1,106 +1,24 @@
 // The listing of an answer, byte for byte, into a buffer that the caller lends.
 ghost use mathlib.Core.Path.{_≡_};
-ghost use mathlib.Core.List.{[], _∷_};
 ghost use Prim.Native.Nat.{_+_, _*_, _/_, _≤_, _<_};
 ghost use lib.ListN.{length};
-ghost use lib.Ieee.{binary32, toBits};
-ghost use Rattle.listing.specs.Digits.{glyph as glyphOf, digits, places as placesOf, decimal};
-ghost use Rattle.listing.specs.Texts.{numberThen, floatThen, wordLine, pointLine, faceLine, linesTo, headText, refusalText, meshText, refusalFits, meshFits};
-ghost use Rattle.listing.specs.Written.{Put, Lists};
+ghost use Rattle.text.specs.Lines.{linesTo};
+ghost use Rattle.text.specs.Contracts.{Put};
+ghost use Rattle.listing.specs.Texts.{floatThen, pointLine, faceLine, headText, refusalText, meshText, meshRoom, refusalFits, meshFits};
+ghost use Rattle.listing.specs.Written.{Prints};
+ghost use Rattle.listing.specs.Contracts.{MeshAsked};
+use bits::patterns::bits_of_f32;
+use text::put_byte;
+use text::put_decimal;
+use text::put_hexadecimal;
+use text::put_line;
+use text::put_number;
+use text::put_word;
 
 // How many bytes were written; or the buffer is too short, or the mesh larger than document 01 allows, and nothing was.
-pub enum Listed {
+pub enum Printed {
     Bytes(usize),
     NoRoom,
-}
-
-// The code of a digit below 16.
-fn glyph(d: u32) -> u8
-    requires { ⌜ d < 16 ⌝ }
-    ensures { λ r. ⌜ r ≡ glyphOf d ⌝ }
-{
-    if d < 10 { 48 + d as u8 } else { 87 + d as u8 }
-}
-
-// How many decimal digits a number has.
-fn places(n: u32) -> usize
-    ensures { λ r. ⌜ r ≡ placesOf 9 n ⌝ }
-{
-    let mut k = 1;
-    let mut rest = n;
-    while k < 10 {
-        if rest < 10 {
-            return k;
-        }
-        rest /= 10;
-        k += 1;
-    }
-    k
-}
-
-// Writes the last k digits of a number.
-fn put_digits(out: &mut [u8], at: usize, base: u32, k: usize, n: u32) -> usize
-    requires { ⌜ 1 < base ⌝ ∗ ⌜ base ≤ 16 ⌝ ∗ ⌜ at + k ≤ length (now out) ⌝ }
-    ensures { λ r. ⌜ Put k (digits base k n) at (now (out .entry)) (now (out .exit)) r ⌝ }
-{
-    let mut i = k;
-    let mut rest = n;
-    while 0 < i {
-        i -= 1;
-        out[at + i] = glyph(rest % base);
-        rest /= base;
-    }
-    at + k
-}
-
-// Writes a word.
-fn put_word(out: &mut [u8], at: usize, word: &[u8]) -> usize
-    requires { ⌜ at + length (now word) ≤ length (now out) ⌝ }
-    ensures { λ r. ⌜ Put (length (now (word .entry))) (now (word .entry)) at (now (out .entry)) (now (out .exit)) r ⌝ }
-{
-    let mut i = 0;
-    while i < word.len() {
-        out[at + i] = word[i];
-        i += 1;
-    }
-    at + i
-}
-
-// Writes one byte.
-fn put_byte(out: &mut [u8], at: usize, b: u8) -> usize
-    requires { ⌜ at + 1 ≤ length (now out) ⌝ }
-    ensures { λ r. ⌜ Put 1 (b ∷ []) at (now (out .entry)) (now (out .exit)) r ⌝ }
-{
-    out[at] = b;
-    at + 1
-}
-
-// Writes a number in decimal, without leading zeros.
-fn put_decimal(out: &mut [u8], at: usize, n: u32) -> usize
-    requires { ⌜ at + 10 ≤ length (now out) ⌝ }
-    ensures { λ r. ⌜ Put 10 (decimal n) at (now (out .entry)) (now (out .exit)) r ⌝ }
-{
-    let k = places(n);
-    put_digits(out, at, 10, k, n)
-}
-
-// The bits of a float.
-fn bits_of(x: f32) -> u32
-    ensures { λ r. ⌜ r ≡ toBits binary32 x ⌝ }
-{
-    if x != x {
-        return 0x7fc0_0000;
-    }
-    f32::to_bits(x)
-}
-
-// Writes a number and the byte after it.
-fn put_number(out: &mut [u8], at: usize, n: u32, end: u8) -> usize
-    requires { ⌜ at + 11 ≤ length (now out) ⌝ }
-    ensures { λ r. ⌜ Put 11 (numberThen n end) at (now (out .entry)) (now (out .exit)) r ⌝ }
-{
-    let next = put_decimal(out, at, n);
-    put_byte(out, next, end)
 }
 
 // Writes a float by its bits and the byte after it.
@@ -108,17 +26,8 @@ fn put_float(out: &mut [u8], at: usize, x: f32, end: u8) -> usize
     requires { ⌜ at + 9 ≤ length (now out) ⌝ }
     ensures { λ r. ⌜ Put 9 (floatThen x end) at (now (out .entry)) (now (out .exit)) r ⌝ }
 {
-    let next = put_digits(out, at, 16, 8, bits_of(x));
+    let next = put_hexadecimal(out, at, bits_of_f32(x));
     put_byte(out, next, end)
-}
-
-// Writes a line of a word and a number.
-fn put_line(out: &mut [u8], at: usize, word: &[u8], n: u32) -> usize
-    requires { ⌜ at + (length (now word) + 11) ≤ length (now out) ⌝ }
-    ensures { λ r. ⌜ Put (length (now (word .entry)) + 11) (wordLine (now (word .entry)) n) at (now (out .entry)) (now (out .exit)) r ⌝ }
-{
-    let next = put_word(out, at, word);
-    put_number(out, next, n, b'\n')
 }
 
 // Writes the line of point number k.
@@ -126,9 +35,10 @@ fn put_point(out: &mut [u8], at: usize, points: &[f32], k: usize) -> usize
     requires { ⌜ at + 27 ≤ length (now out) ⌝ ∗ ⌜ 3 * k + 2 < length (now points) ⌝ }
     ensures { λ r. ⌜ Put 27 (pointLine (now (points .entry)) k) at (now (out .entry)) (now (out .exit)) r ⌝ }
 {
-    let second = put_float(out, at, points[3 * k], b' ');
-    let third = put_float(out, second, points[3 * k + 1], b' ');
-    put_float(out, third, points[3 * k + 2], b'\n')
+    let first = 3 * k;
+    let second = put_float(out, at, points[first], b' ');
+    let third = put_float(out, second, points[first + 1], b' ');
+    put_float(out, third, points[first + 2], b'\n')
 }
 
 // Writes the line of face number k.
@@ -136,9 +46,10 @@ fn put_face(out: &mut [u8], at: usize, faces: &[u32], k: usize) -> usize
     requires { ⌜ at + 33 ≤ length (now out) ⌝ ∗ ⌜ 3 * k + 2 < length (now faces) ⌝ }
     ensures { λ r. ⌜ Put 33 (faceLine (now (faces .entry)) k) at (now (out .entry)) (now (out .exit)) r ⌝ }
 {
-    let second = put_number(out, at, faces[3 * k], b' ');
-    let third = put_number(out, second, faces[3 * k + 1], b' ');
-    put_number(out, third, faces[3 * k + 2], b'\n')
+    let first = 3 * k;
+    let second = put_number(out, at, faces[first], b' ');
+    let third = put_number(out, second, faces[first + 1], b' ');
+    put_number(out, third, faces[first + 2], b'\n')
 }
 
 // Writes the lines of the first v points.
@@ -186,8 +97,8 @@ fn put_mesh(
     v: usize,
     f: usize,
 ) -> usize
-    requires { ⌜ (v ≡ length (now points) / 3) × (f ≡ length (now faces) / 3) ⌝ ∗ ⌜ (v ≤ 65536) × (f ≤ 131072) ⌝ ∗ ⌜ 27 * v + 33 * f + 88 ≤ length (now out) ⌝ }
-    ensures { λ r. ⌜ Put (27 * v + 33 * f + 88) (meshText unit folds (now (points .entry)) (now (faces .entry))) 0 (now (out .entry)) (now (out .exit)) r ⌝ }
+    requires { ⌜ MeshAsked (now points) (now faces) v f (now out) ⌝ }
+    ensures { λ r. ⌜ Put (meshRoom v f) (meshText unit folds (now (points .entry)) (now (faces .entry))) 0 (now (out .entry)) (now (out .exit)) r ⌝ }
 {
     let first_point = put_head(out, unit, folds, v as u32);
     let count = put_points(out, first_point, points, v);
@@ -208,27 +119,27 @@ fn mesh_fits(room: usize, v: usize, f: usize) -> bool
     27 * v + 33 * f + 88 <= room
 }
 
-// Lists a refusal: one line with its number and place.
-pub fn list_refusal(out: &mut [u8], number: u32, place: u32) -> Listed
-    ensures { λ r. ⌜ Lists (refusalFits (length (now (out .entry)))) (refusalText number place) (now (out .entry)) (now (out .exit)) r ⌝ }
+// Prints a refusal: one line with its number and place.
+pub fn list_refusal(out: &mut [u8], number: u32, place: u32) -> Printed
+    ensures { λ r. ⌜ Prints (refusalFits (length (now (out .entry)))) (refusalText number place) (now (out .entry)) (now (out .exit)) r ⌝ }
 {
     if out.len() < 35 {
-        return Listed::NoRoom;
+        return Printed::NoRoom;
     }
     let next = put_word(out, 0, b"answer ");
     let after = put_decimal(out, next, number);
-    Listed::Bytes(put_line(out, after, b" place ", place))
+    Printed::Bytes(put_line(out, after, b" place ", place))
 }
 
-// Lists a mesh: the unit, the folds made, the points by their bits and the faces by their points' numbers, three to each.
-pub fn list_mesh(out: &mut [u8], unit: u32, folds: u32, points: &[f32], faces: &[u32]) -> Listed
-    ensures { λ r. ⌜ Lists (meshFits (length (now (out .entry))) (length (now (points .entry)) / 3) (length (now (faces .entry)) / 3)) (meshText unit folds (now (points .entry)) (now (faces .entry))) (now (out .entry)) (now (out .exit)) r ⌝ }
+// Prints a mesh: the unit, the folds made, the points by their bits and the faces by their points' numbers, three to each.
+pub fn list_mesh(out: &mut [u8], unit: u32, folds: u32, points: &[f32], faces: &[u32]) -> Printed
+    ensures { λ r. ⌜ Prints (meshFits (length (now (out .entry))) (length (now (points .entry)) / 3) (length (now (faces .entry)) / 3)) (meshText unit folds (now (points .entry)) (now (faces .entry))) (now (out .entry)) (now (out .exit)) r ⌝ }
 {
     let v = points.len() / 3;
     let f = faces.len() / 3;
     if mesh_fits(out.len(), v, f) {
-        Listed::Bytes(put_mesh(out, unit, folds, points, faces, v, f))
+        Printed::Bytes(put_mesh(out, unit, folds, points, faces, v, f))
     } else {
-        Listed::NoRoom
+        Printed::NoRoom
     }
 }

@@ -5,13 +5,14 @@ use native.Mathlib.Nat.{add-comm, add-right-cancel}
 use native.Mathlib.Omega.{arith}
 use mathlib.Core.Path.{_≡_, refl, sym, ap, ap₂, _∙_}
 use mathlib.Core.List.{List, [], _∷_, _++_, map}
-use mathlib.Core.Bool.{Bool, true, false, not, cond, true≢false, false≢true}
+use mathlib.Core.Bool.{Bool, true, false, not, cond, true≢false}
 use lib.Dec.{ltb, eqb}
 use lib.ListN.{length}
 use borrow.Author.Tests.{lt-ltb}
 use Rattle.lists.specs.Lists.{sum, count, those, every, some, without, SameBag}
 use Rattle.lists.proofs.TestLaws.{by-test}
-use Rattle.lists.proofs.SumLaws.{sum-append, sum-those, sum-map, sum-length, some-count, every-count}
+use Rattle.lists.proofs.SumLaws.{sum-append, sum-those, sum-map, sum-length, sum-without}
+use Rattle.lists.proofs.EveryLaws.{some-count, every-count}
 
 module _ {A : Type 0} where
   pub bag-refl : {xs : List A} → SameBag xs xs
@@ -53,16 +54,6 @@ module _ {A : Type 0} where
   bag-swap xs ys = record { sums = λ g. sum-append g xs ys ∙ add-comm (sum g xs) (sum g ys) ∙ sym (sum-append g ys xs) }
 
   -- ---- one taken out
-
-  -- where all that pass weigh the same, what was taken out weighs that
-  pub sum-without : (g : A → ℕ) (test : A → Bool) (n : ℕ) → ((x : A) → test x ≡ true → g x ≡ n) →
-      (xs : List A) → some test xs ≡ true → sum g (without test xs) + n ≡ sum g xs
-  unfolding sum some without
-  sum-without g test n weigh [] h = absurd (false≢true h)
-  sum-without g test n weigh (x ∷ xs) h =
-      by-test (test x)
-      (λ e. rw e (omega (arith, weigh x e)))
-      (λ e. rw e (omega (arith, sum-without g test n weigh xs (rw e at h))))
 
   -- where none passes, nothing is taken out
   pub without-none : (test : A → Bool) (xs : List A) → some test xs ≡ false → without test xs ≡ xs

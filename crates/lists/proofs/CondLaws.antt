@@ -1,47 +1,16 @@
--- Tests and what hangs on them.
+-- Numbers that hang on tests.
 -- Assumes nothing.
 use Prim.Native.Nat.{ℕ, _+_}
 use native.Mathlib.Omega.{arith}
-use mathlib.Core.Path.{_≡_, refl, sym, _∙_}
-use mathlib.Core.Logic.{_≢_}
-use mathlib.Core.Bool.{Bool, true, false, not, _&&_, _||_, cond, false≢true}
-use lib.Dec.{eqb}
-use borrow.Author.Tests.{eq-eqb, ne-eqb, eqb-true, eqb-false}
-
--- a case for each outcome
-pub by-outcome : (P : Bool → Type 0) (b : Bool) → (b ≡ true → P true) → (b ≡ false → P false) → P b
-by-outcome P true passed failed = passed refl
-by-outcome P false passed failed = failed refl
-
--- ---- equal numbers
-
--- either way round
-pub eqb-sym : (x y : ℕ) → eqb x y ≡ eqb y x
-eqb-sym x y =
-    by-outcome (λ b. b ≡ eqb y x) (eqb x y)
-    (λ e. sym (eq-eqb y x (sym (eqb-true x y e))))
-    (λ e. sym (ne-eqb y x (λ q. eqb-false x y e (sym q))))
-
--- one number is not two others
-pub not-two : (p x y : ℕ) → x ≢ y → (eqb p x && eqb p y) ≡ false
-not-two p x y apart =
-    by-outcome (λ b. (b && eqb p y) ≡ false) (eqb p x) (λ e. ne-eqb p y (λ q. apart (sym (eqb-true p x e) ∙ q))) (λ e. refl)
-
--- ---- two tests of which one rules the other out
-
--- the first may be asked too
-pub never-both : (a b c : Bool) → (b && c) ≡ false → (a && c) ≡ (a && not b && c)
-never-both true true c e = e
-never-both true false c e = refl
-never-both false b c e = refl
+use native.Mathlib.Nat.{add-zero}
+use mathlib.Core.Path.{_≡_, refl, sym, ap}
+use mathlib.Core.Bool.{Bool, true, false, not, _&&_, _||_, cond, false≢true, true≢false}
 
 -- a test and its opposite
 pub never-self : (a b : Bool) (n : ℕ) → cond (a && not b && b) n 0 ≡ 0
 never-self true true n = refl
 never-self true false n = refl
 never-self false b n = refl
-
--- ---- a number that counts where tests pass
 
 -- none failed, so this one passed
 pub passes : (b : Bool) (n : ℕ) → cond b 0 1 + n ≡ 0 → b ≡ true
@@ -102,3 +71,20 @@ cond-three false true true n p q r = absurd (false≢true (sym q))
 cond-three false true false n p q r = omega arith
 cond-three false false true n p q r = omega arith
 cond-three false false false n p q r = refl
+
+-- what is 0 at either of two tests
+pub cond-either : (a b : Bool) (m : ℕ) → cond b 0 (cond a 0 m) ≡ cond (a || b) 0 m
+cond-either true true m = refl
+cond-either true false m = refl
+cond-either false b m = refl
+
+-- one of two things
+pub one-of-two : (a : ℕ) (t u : Bool) → (t && u) ≡ false → a + cond t 1 0 + cond u 1 0 ≡ a + cond (t || u) 1 0
+one-of-two a true true e = absurd (true≢false e)
+one-of-two a true false e = omega arith
+one-of-two a false u e = ap (λ (k : ℕ). k + cond u 1 0) (add-zero a)
+
+-- one thing either way
+pub cond-same : {A : Type 0} (b : Bool) (x : A) → cond b x x ≡ x
+cond-same true x = refl
+cond-same false x = refl

@@ -4,9 +4,10 @@ use Prim.Native.Nat.{ℕ, _≤_, _<_}
 use native.Mathlib.Omega.{arith}
 use mathlib.Core.Path.{refl, _∙_}
 use mathlib.Core.List.{List}
+use lib.Ieee.{Float}
 use lib.ListN.{set, length-set}
 use lib.Seq.{getD-set-other}
-use Rattle.lists.specs.Frames.{But}
+use Rattle.lists.specs.Frames.{But, FloatsBut}
 
 -- no change
 pub but-refl : (lo hi : ℕ) (w : List ℕ) → But lo hi w w
@@ -34,4 +35,16 @@ but-set lo hi w i a low high = record {
   same-length = length-set w i a;
   under = λ j l. getD-set-other w i j a 0 (omega arith);
   over = λ j l. getD-set-other w i j a 0 (omega arith);
+}
+
+-- ---- floats that change
+
+pub floats-refl : (lo hi : ℕ) (p : List Float) → FloatsBut lo hi p p
+floats-refl lo hi p = record { same-length = refl; under = λ i l. refl; rest = refl }
+
+pub floats-then : {lo hi : ℕ} {p p' p'' : List Float} → FloatsBut lo hi p p' → FloatsBut lo hi p' p'' → FloatsBut lo hi p p''
+floats-then one two = record {
+  same-length = two .same-length ∙ one .same-length;
+  under = λ i l. two .under i l ∙ one .under i l;
+  rest = two .rest ∙ one .rest;
 }

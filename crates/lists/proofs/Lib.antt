@@ -2,14 +2,10 @@
 pub mod TestLaws
 pub mod CondLaws
 pub mod SumLaws
-pub mod ListLaws
-pub mod BagLaws
-pub mod BelowSums
-pub mod EachLaws
+pub mod EveryLaws
 pub mod BelowLaws
-pub mod AppendLaws
-pub mod CountLaws
-pub mod ThoseLaws
+pub mod BagLaws
+pub mod DropLaws
 pub mod FrameLaws
 pub mod WrittenLaws
 pub mod StoredLaws

@@ -1,12 +1,13 @@
 -- Tests and flags: a proof by cases on a test, and a test as the number 0 or 1.
 -- Assumes nothing.
-use Prim.Native.Nat.{ℕ, _≤_, _<_}
+use Prim.Native.Nat.{ℕ, _+_, _≤_, _<_}
 use mathlib.Core.Path.{_≡_, refl, sym, _∙_}
+use mathlib.Core.Logic.{_≢_}
 use mathlib.Core.Bool.{Bool, true, false, not, _&&_, _||_, cond, true≢false, false≢true}
 use native.Mathlib.Omega.{arith}
 use lib.Dec.{eqb}
-use borrow.Author.Tests.{eqb-true, eq-eqb, not-true}
-use native.Mathlib.Nat.{not-suc-le-zero}
+use borrow.Author.Tests.{eqb-true, eq-eqb, not-true, ne-eqb, eqb-false}
+use native.Mathlib.Nat.{not-suc-le-zero, add-zero}
 
 -- a test passes or fails
 pub by-test : {P : Type 0} (b : Bool) → (b ≡ true → P) → (b ≡ false → P) → P
@@ -82,3 +83,67 @@ differ x y h e = clash (eq-eqb x y e) (not-true _ h)
 
 pub ends : (x y m n : ℕ) → (eqb x m && eqb y n) ≡ true → (x ≡ m) × (y ≡ n)
 ends x y m n h = (eqb-true x m (left-of (eqb x m) (eqb y n) h), eqb-true y n (right-of (eqb x m) (eqb y n) h))
+
+-- ---- by cases
+
+-- a case for each outcome
+pub by-outcome : (P : Bool → Type 0) (b : Bool) → (b ≡ true → P true) → (b ≡ false → P false) → P b
+by-outcome P true passed failed = passed refl
+by-outcome P false passed failed = failed refl
+
+-- two tests that imply each other
+pub same-test : (a b : Bool) → (a ≡ true → b ≡ true) → (b ≡ true → a ≡ true) → a ≡ b
+same-test true true there back = refl
+same-test true false there back = absurd (false≢true (there refl))
+same-test false true there back = absurd (false≢true (back refl))
+same-test false false there back = refl
+
+-- ---- equal numbers
+
+-- either way round
+pub eqb-sym : (x y : ℕ) → eqb x y ≡ eqb y x
+eqb-sym x y =
+    by-outcome (λ b. b ≡ eqb y x) (eqb x y)
+    (λ e. sym (eq-eqb y x (sym (eqb-true x y e))))
+    (λ e. sym (ne-eqb y x (λ q. eqb-false x y e (sym q))))
+
+-- one number is not two others
+pub not-two : (p x y : ℕ) → x ≢ y → (eqb p x && eqb p y) ≡ false
+not-two p x y apart =
+    by-outcome (λ b. (b && eqb p y) ≡ false) (eqb p x) (λ e. ne-eqb p y (λ q. apart (sym (eqb-true p x e) ∙ q))) (λ e. refl)
+
+-- a number that is not above another is it with one added only where nothing is added
+pub still-equal : (a b : ℕ) (grew : Bool) → a ≤ b → eqb a (b + cond grew 1 0) ≡ (eqb a b && not grew)
+still-equal a b true h = ne-eqb a (b + 1) (λ e. omega arith) ∙ sym (and-false (eqb a b))
+  where
+    and-false : (x : Bool) → (x && false) ≡ false
+    and-false true = refl
+    and-false false = refl
+still-equal a b false h = rw add-zero (sym (and-true (eqb a b)))
+  where
+    and-true : (x : Bool) → (x && true) ≡ x
+    and-true true = refl
+    and-true false = refl
+
+-- ---- several tests
+
+-- the first may be asked too
+pub never-both : (a b c : Bool) → (b && c) ≡ false → (a && c) ≡ (a && not b && c)
+never-both true true c e = e
+never-both true false c e = refl
+never-both false b c e = refl
+
+-- two tests, each passed on where something did not happen
+pub both-still : (a b t u : Bool) → ((a && not t) && (b && not u)) ≡ ((a && b) && not (t || u))
+both-still true true true u = refl
+both-still true true false u = refl
+both-still true false true u = refl
+both-still true false false true = refl
+both-still true false false false = refl
+both-still false b t u = refl
+
+-- four tests in a row, by twos
+pub by-twos : (a b c d : Bool) → not ((a || b) || (c || d)) ≡ not (a || b || c || d)
+by-twos true b c d = refl
+by-twos false true c d = refl
+by-twos false false c d = refl

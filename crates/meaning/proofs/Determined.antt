@@ -1,41 +1,32 @@
--- The public entries' statements are tight: any two outcomes that one allows coincide, in the answer and in every lent cell.
+-- The public entry's statement is tight: any two outcomes that it allows coincide, in the answer, in every lent cell and in the fold list.
 -- Assumes nothing.
 use Prim.Native.Nat.{ℕ}
 use mathlib.Core.Path.{_≡_, sym, _∙_}
 use mathlib.Core.List.{List}
-use mathlib.Core.Bool.{Bool}
-use lib.Ieee.{Float}
 use Rattle.meaning.specs.Input.{Input}
 use Rattle.meaning.specs.declared.Answer.{Answer}
-use Rattle.meaning.specs.Outcome.{foldsOf}
-use Rattle.meaning.specs.Call.{Answered, listed}
+use Rattle.meaning.specs.Call.{Lent, Answered, Thinned}
 
--- two calls on the same input and buffers, which they leave as r with points₁ .. q₁ and as s with points₂ .. q₂
-pub record Same (r s : Answer) (points₁ points₂ : List Float) (faces₁ faces₂ u₁ u₂ : List ℕ) (p₁ p₂ q₁ q₂ : List Float) : Type 0 where
-  pub answer : r ≡ s
-  pub points : points₁ ≡ points₂
-  pub faces : faces₁ ≡ faces₂
-  pub u32s : u₁ ≡ u₂
-  pub f32s : p₁ ≡ p₂
-  pub f64s : q₁ ≡ q₂
+-- lent buffers with the same cells are the same
+lent-path : {a b : Lent} → a .points ≡ b .points → a .faces ≡ b .faces → a .u32s ≡ b .u32s → a .f32s ≡ b .f32s → a .f64s ≡ b .f64s → a ≡ b
+lent-path points faces u32s f32s f64s t = record { points = points t; faces = faces t; u32s = u32s t; f32s = f32s t; f64s = f64s t }
 
--- thin and thin_plain
-pub determined : (i : Input) (preserve : Bool) {points points₁ points₂ : List Float} {faces faces₁ faces₂ u u₁ u₂ : List ℕ} {p p₁ p₂ q q₁ q₂ : List Float} {r s : Answer} →
-    Answered i preserve points faces u p q points₁ faces₁ u₁ p₁ q₁ r → Answered i preserve points faces u p q points₂ faces₂ u₂ p₂ q₂ s →
-    Same r s points₁ points₂ faces₁ faces₂ u₁ u₂ p₁ p₂ q₁ q₂
-determined i preserve a b = record {
-  answer = a .answered ∙ sym (b .answered);
-  points = a .points-out ∙ sym (b .points-out);
-  faces = a .faces-out ∙ sym (b .faces-out);
-  u32s = a .u32s-left ∙ sym (b .u32s-left);
-  f32s = a .f32s-left ∙ sym (b .f32s-left);
-  f64s = a .f64s-left ∙ sym (b .f64s-left);
-}
+-- the answer and the lent buffers
+pub determined-answer : (i : Input) {before after₁ after₂ : Lent} {r₁ r₂ : Answer} →
+    Answered i before after₁ r₁ → Answered i before after₂ r₂ → (after₁ ≡ after₂) × (r₁ ≡ r₂)
+determined-answer i a b = (
+  lent-path
+      (a .points-out ∙ sym (b .points-out))
+      (a .faces-out ∙ sym (b .faces-out))
+      (a .u32s-left ∙ sym (b .u32s-left))
+      (a .f32s-left ∙ sym (b .f32s-left))
+      (a .f64s-left ∙ sym (b .f64s-left)),
+  a .answered ∙ sym (b .answered),
+)
 
--- thin_folds
-pub determined-folds : (i : Input) (preserve : Bool) (folds : List ℕ)
-    {points points₁ points₂ : List Float} {faces faces₁ faces₂ u u₁ u₂ : List ℕ} {p p₁ p₂ q q₁ q₂ : List Float} {folds₁ folds₂ : List ℕ} {r s : Answer} →
-    Answered i preserve points faces u p q points₁ faces₁ u₁ p₁ q₁ r → folds₁ ≡ listed (foldsOf i preserve) folds →
-    Answered i preserve points faces u p q points₂ faces₂ u₂ p₂ q₂ s → folds₂ ≡ listed (foldsOf i preserve) folds →
-    Same r s points₁ points₂ faces₁ faces₂ u₁ u₂ p₁ p₂ q₁ q₂ × (folds₁ ≡ folds₂)
-determined-folds i preserve folds a a-folds b b-folds = (determined i preserve a b, a-folds ∙ sym b-folds)
+-- and the fold list
+pub determined : (i : Input) {before after₁ after₂ : Lent} {folds folds₁ folds₂ : List ℕ} {r₁ r₂ : Answer} →
+    Thinned i before after₁ folds folds₁ r₁ → Thinned i before after₂ folds folds₂ r₂ → (after₁ ≡ after₂) × (r₁ ≡ r₂) × (folds₁ ≡ folds₂)
+determined i a b =
+    let same = determined-answer i (a .answered) (b .answered) in
+    (same .0, same .1, a .folds-listed ∙ sym (b .folds-listed))

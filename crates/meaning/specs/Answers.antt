@@ -1,5 +1,5 @@
 -- The answer numbers 1 to 9 of document 01, in the order they are checked, each "given exactly when".
-use Prim.Native.Nat.{ℕ, suc, _+_, _*_, _/_, _%_}
+use Prim.Native.Nat.{ℕ, suc, _*_, _/_, _%_}
 use mathlib.Core.List.{List, [], _∷_}
 use mathlib.Core.Bool.{Bool, true, false, not, _&&_, _||_}
 use lib.Dec.{ltb, eqb}
@@ -15,12 +15,13 @@ use Rattle.placement.specs.declared.Limit.the-variants.{Unlimited, AtMost}
 use Rattle.meaning.specs.declared.Rooms.{Rooms}
 use Rattle.meaning.specs.declared.Verdict.{Verdict}
 use Rattle.meaning.specs.declared.Verdict.the-variants.{Refused, Copied, Admitted}
-use Rattle.meaning.specs.Input.{Input, pointsIn, facesIn}
+use Rattle.meaning.specs.Input.{Input, pointsIn, facesIn, f32sNeeded, f64sNeeded, u32sNeeded}
 
--- 0.0 and 1.0
+-- 0.0
 abbrev pub zeroFloat : Float
 zeroFloat = fin false 0 (pos 0)
 
+-- 1.0
 abbrev pub oneFloat : Float
 oneFloat = fin false 1 (pos 0)
 
@@ -39,9 +40,9 @@ abbrev pub short : ℕ → ℕ → Rooms → Bool
 short v f rooms =
     ltb (rooms .points) (3 * v)
     || ltb (rooms .faces) (3 * f)
-    || ltb (rooms .u32s) (16 * v + 32 * f)
-    || ltb (rooms .f32s) (4 * v + 12 * f)
-    || ltb (rooms .f64s) (16 * v + 6 * f)
+    || ltb (rooms .u32s) (u32sNeeded v f)
+    || ltb (rooms .f32s) (f32sNeeded v f)
+    || ltb (rooms .f64s) (f64sNeeded v f)
 
 -- 4: no points or no faces
 abbrev pub empty : ℕ → ℕ → Bool
@@ -96,6 +97,6 @@ verdictOf i =
     (pick (large (pointsIn i) (facesIn i)) (Refused 2 0)
     (pick (short (pointsIn i) (facesIn i) (i .rooms)) (Refused 3 0)
     (pick (empty (pointsIn i) (facesIn i)) (Refused 4 0)
-    (pick (badRatio (i .ratio)) (Refused 5 0)
-    (pick (badLimit (i .limit)) (Refused 6 0)
-    (contentsVerdict (i .points) (i .faces) (i .ratio) (i .bound)))))))
+    (pick (badRatio (i .options .ratio)) (Refused 5 0)
+    (pick (badLimit (i .options .limit)) (Refused 6 0)
+    (contentsVerdict (i .points) (i .faces) (i .options .ratio) (i .bound)))))))

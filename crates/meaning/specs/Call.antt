@@ -1,35 +1,55 @@
--- The public entry's statement: its answer and every lent cell afterwards, for any input.
-use Prim.Native.Nat.{ℕ, _+_, _*_}
+-- The statement of a call: its answer and every lent cell afterwards, for any input. `Thinned`, at the end, is what the public entry states.
+use Prim.Native.Nat.{ℕ}
 use mathlib.Core.Path.{_≡_}
 use mathlib.Core.List.{List, _++_}
 use mathlib.Core.Bool.{Bool, cond}
 use lib.ListN.{length, take, drop, replicate}
 use lib.Ieee.{Float, binary32, ofBits}
 use Rattle.geometry.specs.Constants.{nought}
-use Rattle.placement.specs.declared.Limit.{Limit}
 use Rattle.walk.specs.declared.Pair.{Pair}
 use Rattle.lists.specs.Frames.{overlaid}
-use Rattle.meaning.specs.Input.{Input, pointsIn, facesIn}
 use Rattle.meaning.specs.declared.Answer.{Answer}
-use Rattle.meaning.specs.Outcome.{Outcome, outcome, pairNumbers}
+use Rattle.meaning.specs.declared.Options.{Options}
+use Rattle.meaning.specs.Input.{Input, pointsIn, facesIn, u32sNeeded, f32sNeeded, f64sNeeded}
+use Rattle.meaning.specs.Outcome.{Outcome, outcome, foldsOf, pairNumbers}
+
+-- ---- what a caller hands over
 
 -- no coordinate is larger: 1,048,576
-abbrev pub largest : Float
-largest = ofBits binary32 0x4980_0000
+abbrev pub coordinateBound : Float
+coordinateBound = ofBits binary32 0x4980_0000
 
--- what a caller hands over: of the lent buffers, outputs first, only their lengths count
-abbrev pub inputOf :
-    (points : List Float) (faces : List ℕ) (ratio : Float) (limit : Limit)
-    (out-points : List Float) (out-faces : List ℕ) (u : List ℕ) (p q : List Float) → Input
-inputOf points faces ratio limit out-points out-faces u p q =
+-- The cells of the buffers that a caller lends, at one moment: the two outputs, and the work memory of each type.
+pub record Lent : Type 0 where
+  pub points : List Float
+  pub faces : List ℕ
+  pub u32s : List ℕ
+  pub f32s : List Float
+  pub f64s : List Float
+
+-- five buffers as one
+abbrev pub lent : (points : List Float) (faces u32s : List ℕ) (f32s f64s : List Float) → Lent
+lent points faces u32s f32s f64s = record { points = points; faces = faces; u32s = u32s; f32s = f32s; f64s = f64s }
+
+-- the input of a call: of the lent buffers only their lengths count
+abbrev pub inputOf : (points : List Float) (faces : List ℕ) (options : Options) (before : Lent) → Input
+inputOf points faces options before =
     record {
       points = points;
       faces = faces;
-      rooms = record { points = length out-points; faces = length out-faces; u32s = length u; f32s = length p; f64s = length q };
-      ratio = ratio;
-      limit = limit;
-      bound = largest;
+      rooms =
+          record {
+            points = length (before .points);
+            faces = length (before .faces);
+            u32s = length (before .u32s);
+            f32s = length (before .f32s);
+            f64s = length (before .f64s);
+          };
+      options = options;
+      bound = coordinateBound;
     }
+
+-- ---- what it finds afterwards
 
 -- the first n cells are zero and the rest is as it came, where the memory was worked in; else all is as it came
 abbrev pub leftAs : {A : Type 0} → Bool → ℕ → A → List A → List A
@@ -37,23 +57,23 @@ leftAs worked n zero cells = cond worked (replicate n zero ++ drop n cells) cell
 
 -- The outcome o for V points and F faces: outputs changed only in the part used; work memory untouched where it wasn't worked in, else its stated
 -- part all zero; the rest never written.
-pub record Leaves (v f : ℕ) (o : Outcome)
-    (points : List Float) (faces : List ℕ) (u : List ℕ) (p q : List Float)
-    (points' : List Float) (faces' : List ℕ) (u' : List ℕ) (p' q' : List Float) (r : Answer) : Type 0 where
+pub record Leaves (v f : ℕ) (o : Outcome) (before after : Lent) (r : Answer) : Type 0 where
   pub answered : r ≡ o .answer
-  pub points-out : points' ≡ overlaid (o .points) points
-  pub faces-out : faces' ≡ overlaid (o .faces) faces
-  pub u32s-left : u' ≡ leftAs (o .worked) (16 * v + 32 * f) 0 u
-  pub f32s-left : p' ≡ leftAs (o .worked) (4 * v + 12 * f) nought p
-  pub f64s-left : q' ≡ leftAs (o .worked) (16 * v + 6 * f) nought q
+  pub points-out : after .points ≡ overlaid (o .points) (before .points)
+  pub faces-out : after .faces ≡ overlaid (o .faces) (before .faces)
+  pub u32s-left : after .u32s ≡ leftAs (o .worked) (u32sNeeded v f) 0 (before .u32s)
+  pub f32s-left : after .f32s ≡ leftAs (o .worked) (f32sNeeded v f) nought (before .f32s)
+  pub f64s-left : after .f64s ≡ leftAs (o .worked) (f64sNeeded v f) nought (before .f64s)
 
--- what a call leaves: the outcome of its input
-abbrev pub Answered :
-    (i : Input) (preserve : Bool)
-    (points : List Float) (faces : List ℕ) (u : List ℕ) (p q : List Float)
-    (points' : List Float) (faces' : List ℕ) (u' : List ℕ) (p' q' : List Float) (r : Answer) → Type 0
-Answered i preserve = Leaves (pointsIn i) (facesIn i) (outcome i preserve)
+-- a call on the input i answers r and turns the lent buffers from before to after: the outcome of its input
+abbrev pub Answered : (i : Input) (before after : Lent) (r : Answer) → Type 0
+Answered i = Leaves (pointsIn i) (facesIn i) (outcome i)
 
 -- folds in a lent list: keep and remove of each, as far as there is room, and the rest as it came
 abbrev pub listed : List Pair → List ℕ → List ℕ
 listed made folds = overlaid (take (length folds) (pairNumbers made)) folds
+
+-- The whole statement: the call is answered, and the list folds, lent too, becomes folds', with the folds of the input.
+pub record Thinned (i : Input) (before after : Lent) (folds folds' : List ℕ) (r : Answer) : Type 0 where
+  pub answered : Answered i before after r
+  pub folds-listed : folds' ≡ listed (foldsOf i) folds

@@ -25,37 +25,37 @@ use Rattle.walk.specs.Faces.{borderPoint, borderCount}
 use Rattle.walk.specs.Fold.{foldedFaces, foldedMesh}
 use Rattle.walk.specs.FoldTest.{fairFace, allowed}
 use Rattle.walk.specs.Pairs.{pairsBelow, order, least, opened}
-use Rattle.walk.specs.Walk.{foldOf, budget, started, tried, chosen, answer, after, walk, foldList}
+use Rattle.walk.specs.Machines.{walk, foldList}
+use Rattle.walk.specs.Walk.{foldOf, budget, started, tried, chosen, answer, after}
 use Rattle.walk.specs.Output.{used, placeIn, renumbered, numbersOf}
 use Rattle.meaning.specs.Arithmetic.{fairPoints, mergedVertex, rulesOf}
 use Rattle.meaning.specs.Start.{gathered, startMesh}
 use Rattle.meaning.specs.Input.{Input}
 use Rattle.meaning.specs.Answers.{faceVerdict, contentsVerdict, verdictOf}
 use Rattle.meaning.specs.declared.Answer.{Answer}
-use Rattle.meaning.specs.Call.{largest}
+use Rattle.meaning.specs.Call.{coordinateBound}
 use Rattle.meaning.specs.Outcome.{startOf, targetOf, lastMesh, foldsWalked, partsIn, refusal, Outcome, outcomeBy, outcome, foldsBy, foldsOf, pairNumbers}
 
--- a mesh, its points by their bits, with a ratio by its bits and a limit, and room for ten points and ten faces
-abbrev meshWith : List ℕ → List ℕ → ℕ → Limit → Input
-meshWith points faces ratio limit =
+-- a mesh, its points by their bits, with a ratio by its bits, preserve on or off and a limit, and room for ten points and ten faces
+abbrev meshWith : List ℕ → List ℕ → ℕ → Bool → Limit → Input
+meshWith points faces ratio preserve limit =
     record {
       points = map (ofBits binary32) points;
       faces = faces;
       rooms = record { points = 30; faces = 30; u32s = 480; f32s = 160; f64s = 220 };
-      ratio = ofBits binary32 ratio;
-      limit = limit;
-      bound = largest;
+      options = record { ratio = ofBits binary32 ratio; preserve = preserve; limit = limit };
+      bound = coordinateBound;
     }
 
 -- the example square: (0,0,0) (2,0,0) (2,2,0) (0,2,0) (1,1,0)
-abbrev square : ℕ → Limit → Input
+abbrev square : ℕ → Bool → Limit → Input
 square =
     meshWith
     (0 ∷ 0 ∷ 0 ∷ 0x4000_0000 ∷ 0 ∷ 0 ∷ 0x4000_0000 ∷ 0x4000_0000 ∷ 0 ∷ 0 ∷ 0x4000_0000 ∷ 0 ∷ 0x3f80_0000 ∷ 0x3f80_0000 ∷ 0 ∷ [])
     (0 ∷ 1 ∷ 4 ∷ 1 ∷ 2 ∷ 4 ∷ 2 ∷ 3 ∷ 4 ∷ 3 ∷ 0 ∷ 4 ∷ [])
 
 -- one triangle: (0,0,0) (1,0,0) (0,1,0)
-abbrev triangle : ℕ → Limit → Input
+abbrev triangle : ℕ → Bool → Limit → Input
 triangle = meshWith (0 ∷ 0 ∷ 0 ∷ 0x3f80_0000 ∷ 0 ∷ 0 ∷ 0 ∷ 0x3f80_0000 ∷ 0 ∷ []) (0 ∷ 1 ∷ 2 ∷ [])
 
 -- a call that is answered with 0: the points and faces written, and the folds made
@@ -70,21 +70,21 @@ pub record Shown : Type 0 where
   pub faces : List ℕ
   pub folds : List ℕ
 
+-- an outcome and its folds, as they are shown
 abbrev pub shown : Outcome → List Pair → Shown
 shown o folds = record { answer = o .answer; points = map (toBits binary32) (o .points); faces = o .faces; folds = pairNumbers folds }
 
--- an example: what is handed over, preserve on or off, and what document 01 says comes out
+-- an example: what is handed over, and what document 01 says comes out
 pub record Example : Type 0 where
   pub input : Input
-  pub preserve : Bool
   pub out : Shown
 
+-- document 01's examples
 abbrev pub examples : List Example
 examples =
     -- the example square at ratio 0.5: (0,1) is closed, and (0,4) folds
     record {
-      input = square 0x3f00_0000 Unlimited;
-      preserve = false;
+      input = square 0x3f00_0000 false Unlimited;
       out = record {
         answer = done 4 2 1;
         points = 0x4000_0000 ∷ 0 ∷ 0 ∷ 0x4000_0000 ∷ 0x4000_0000 ∷ 0 ∷ 0 ∷ 0 ∷ 0 ∷ 0 ∷ 0x4000_0000 ∷ 0 ∷ [];
@@ -93,15 +93,14 @@ examples =
       };
     }
     -- the same with preserve on: four border points are held
-    ∷ record { input = square 0x3f00_0000 Unlimited; preserve = true; out = record { answer = refusal 10 4; points = []; faces = []; folds = [] } }
+    ∷ record { input = square 0x3f00_0000 true Unlimited; out = record { answer = refusal 10 4; points = []; faces = []; folds = [] } }
     -- the same with preserve off and limit 1.0
-    ∷ record { input = square 0x3f00_0000 (AtMost (ofBits binary32 0x3f80_0000)); preserve = false; out = record { answer = refusal 11 0; points = []; faces = []; folds = [] } }
+    ∷ record { input = square 0x3f00_0000 false (AtMost (ofBits binary32 0x3f80_0000)); out = record { answer = refusal 11 0; points = []; faces = []; folds = [] } }
     -- one triangle at ratio 1: an empty mesh
-    ∷ record { input = triangle 0x3f80_0000 Unlimited; preserve = false; out = record { answer = done 0 0 1; points = []; faces = []; folds = 0 ∷ 1 ∷ [] } }
+    ∷ record { input = triangle 0x3f80_0000 false Unlimited; out = record { answer = done 0 0 1; points = []; faces = []; folds = 0 ∷ 1 ∷ [] } }
     -- the square at ratio 2^-25: nothing folds, and points are numbered by first use
     ∷ record {
-      input = square 0x3300_0000 Unlimited;
-      preserve = false;
+      input = square 0x3300_0000 false Unlimited;
       out = record {
         answer = done 5 4 0;
         points = 0 ∷ 0 ∷ 0 ∷ 0x4000_0000 ∷ 0 ∷ 0 ∷ 0x3f80_0000 ∷ 0x3f80_0000 ∷ 0 ∷ 0x4000_0000 ∷ 0x4000_0000 ∷ 0 ∷ 0 ∷ 0x4000_0000 ∷ 0 ∷ [];
@@ -111,7 +110,7 @@ examples =
     }
     ∷ []
 
--- document 01's examples come out
-pub examples-hold : map (λ e. shown (outcome (e .input) (e .preserve)) (foldsOf (e .input) (e .preserve))) examples ≡ map (λ e. e .out) examples
+-- they come out
+pub examples-hold : map (λ e. shown (outcome (e .input)) (foldsOf (e .input))) examples ≡ map (λ e. e .out) examples
 unfolding outcome outcomeBy pairNumbers foldsOf foldsBy partsIn foldsWalked lastMesh targetOf startOf startMesh gathered rulesOf mergedVertex fairPoints numbersOf renumbered placeIn used foldList walk after answer chosen tried opened started least order budget foldOf pairsBelow foldedMesh allowed fairFace foldedFaces borderCount borderPoint without those every some below lists.sum placeOf fallback cheaper tested stands solved eligible pairCost pairPlace pairLength pairQuadric inverse errorAt planeOf unitNormal allFinite normal norm root rootBits finiteRoot bitsRoot.largest halfway fourfold steps floatKey orderKey narrowed cut target flatMap verdictOf contentsVerdict faceVerdict firstOf span climb size odd units round neg ieee.sum add sub mul div lt eq le ofInt toUnsigned isNan ofFields ofBits toBits
 examples-hold = refl

@@ -4,7 +4,7 @@ use mathlib.Core.List.{List}
 use lib.ListN.{length, getD}
 use lib.Ieee.{Float, nan}
 use Rattle.geometry.specs.declared.Point.{Point}
-use Rattle.placement.specs.declared.Limit.{Limit}
+use Rattle.meaning.specs.declared.Options.{Options}
 use Rattle.meaning.specs.declared.Rooms.{Rooms}
 
 -- What a caller hands over, but for the buffers' contents: the lists, the lengths of the lent buffers, the options, and the bound on a coordinate's size.
@@ -12,17 +12,29 @@ pub record Input : Type 0 where
   pub points : List Float
   pub faces : List ℕ
   pub rooms : Rooms
-  pub ratio : Float
-  pub limit : Limit
+  pub options : Options
   pub bound : Float
 
--- V and F
+-- V
 abbrev pub pointsIn : Input → ℕ
 pointsIn i = length (i .points) / 3
 
+-- F
 abbrev pub facesIn : Input → ℕ
 facesIn i = length (i .faces) / 3
 
 -- the point number x of a list of coordinates, three to a point
 abbrev pub pointAt : List Float → ℕ → Point
 pointAt p x = record { x = getD p (3 * x) nan; y = getD p (3 * x + 1) nan; z = getD p (3 * x + 2) nan }
+
+-- the cells of u32 in the work memory that V points and F faces need
+abbrev pub u32sNeeded : ℕ → ℕ → ℕ
+u32sNeeded v f = 16 * v + 32 * f
+
+-- and those of f32
+abbrev pub f32sNeeded : ℕ → ℕ → ℕ
+f32sNeeded v f = 4 * v + 12 * f
+
+-- and those of f64
+abbrev pub f64sNeeded : ℕ → ℕ → ℕ
+f64sNeeded v f = 16 * v + 6 * f

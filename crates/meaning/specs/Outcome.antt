@@ -10,7 +10,8 @@ use Rattle.placement.specs.declared.pair.Vertex.{Vertex}
 use Rattle.walk.specs.declared.Pair.{Pair}
 use Rattle.walk.specs.Faces.{facesOf, borderCount}
 use Rattle.walk.specs.Points.{Rules, Mesh}
-use Rattle.walk.specs.Walk.{State, started, walk, foldList, budget}
+use Rattle.walk.specs.Machines.{walk, foldList}
+use Rattle.walk.specs.Walk.{State, started, budget, plainMachine}
 use Rattle.walk.specs.Output.{used, renumbered, numbersOf}
 use Rattle.meaning.specs.Start.{startMesh}
 use Rattle.meaning.specs.Arithmetic.{rulesOf}
@@ -22,33 +23,37 @@ use Rattle.meaning.specs.declared.Answer.{Answer}
 
 -- ---- the walk of an admitted mesh
 
+-- the rules that the input's limit and bound make
 abbrev pub rulesIn : Input → Rules Vertex
-rulesIn i = rulesOf (i .limit) (i .bound)
+rulesIn i = rulesOf (i .options .limit) (i .bound)
 
--- the state at the start, and the number of faces to reach
-unfoldable pub startOf : Input → Bool → State Vertex
-startOf i preserve = started (rulesIn i) (startMesh (pointsIn i) (facesIn i) (i .points) (i .faces) preserve)
+-- the state at the start
+unfoldable pub startOf : Input → State Vertex
+startOf i = started (rulesIn i) (startMesh (pointsIn i) (facesIn i) (i .points) (i .faces) (i .options .preserve))
 
+-- the number of faces to reach
 unfoldable pub targetOf : Input → ℕ
-targetOf i = target (i .ratio) (facesIn i)
+targetOf i = target (i .options .ratio) (facesIn i)
 
--- the mesh at the end and the folds in order, on a budget that is always enough
-unfoldable pub lastMesh : Input → Bool → Mesh Vertex
-lastMesh i preserve = (walk (rulesIn i) (targetOf i) (budget (facesIn i) (startOf i preserve)) (startOf i preserve)) .mesh
+-- the mesh at the end, on a budget that is always enough
+unfoldable pub lastMesh : Input → Mesh Vertex
+lastMesh i = walk (plainMachine (rulesIn i) (targetOf i)) (budget (facesIn i) (startOf i)) (startOf i) .mesh
 
-unfoldable pub foldsWalked : Input → Bool → List Pair
-foldsWalked i preserve = foldList (rulesIn i) (targetOf i) (budget (facesIn i) (startOf i preserve)) (startOf i preserve)
+-- the folds in order
+unfoldable pub foldsWalked : Input → List Pair
+foldsWalked i = foldList (plainMachine (rulesIn i) (targetOf i)) (budget (facesIn i) (startOf i)) (startOf i)
 
-abbrev pub foldsMade : Input → Bool → ℕ
-foldsMade i preserve = length (foldsWalked i preserve)
+-- how many they are
+abbrev pub foldsMade : Input → ℕ
+foldsMade i = length (foldsWalked i)
 
 -- no fold was made, and there are more faces than the target
-abbrev pub stuck : Input → Bool → Bool
-stuck i preserve = eqb (foldsMade i preserve) 0 && ltb (targetOf i) (facesIn i)
+abbrev pub stuck : Input → Bool
+stuck i = eqb (foldsMade i) 0 && ltb (targetOf i) (facesIn i)
 
 -- the border points of the input, where they are preserved
-abbrev pub bordersHeld : Input → Bool → ℕ
-bordersHeld i preserve = cond preserve (borderCount (pointsIn i) (facesOf (facesIn i) (i .faces))) 0
+abbrev pub bordersHeld : Input → ℕ
+bordersHeld i = cond (i .options .preserve) (borderCount (pointsIn i) (facesOf (facesIn i) (i .faces))) 0
 
 -- ---- what comes out
 
@@ -77,44 +82,46 @@ abbrev pub stuckAnswer : ℕ → Answer
 stuckAnswer borders = cond (ltb 0 borders) (refusal 10 borders) (refusal 11 0)
 
 -- live faces in face order, points numbered by first use
-abbrev pub thinnedOutcome : Input → Bool → Outcome
-thinnedOutcome i preserve =
-    let faces = lastMesh i preserve .faces in
+abbrev pub thinnedOutcome : Input → Outcome
+thinnedOutcome i =
+    let faces = lastMesh i .faces in
     record {
-      answer = record { number = 0; place = 0; points = length (used [] faces); faces = length faces; folds = foldsMade i preserve };
-      points = partsIn (rulesIn i) (lastMesh i preserve) (used [] faces);
+      answer = record { number = 0; place = 0; points = length (used [] faces); faces = length faces; folds = foldsMade i };
+      points = partsIn (rulesIn i) (lastMesh i) (used [] faces);
       faces = numbersOf (renumbered faces);
       worked = true;
     }
 
 -- the outcome of an input, by what the checks say of it
-unfoldable pub outcomeBy : Verdict → Input → Bool → Outcome
-outcomeBy (Refused number place) i preserve = record { answer = refusal number place; points = []; faces = []; worked = false }
-outcomeBy Copied i preserve =
+unfoldable pub outcomeBy : Verdict → Input → Outcome
+outcomeBy (Refused number place) i = record { answer = refusal number place; points = []; faces = []; worked = false }
+outcomeBy Copied i =
     record {
       answer = record { number = 0; place = 0; points = pointsIn i; faces = facesIn i; folds = 0 };
       points = i .points;
       faces = i .faces;
       worked = true;
     }
-outcomeBy Admitted i preserve =
-    cond (stuck i preserve)
-    (record { answer = stuckAnswer (bordersHeld i preserve); points = []; faces = []; worked = true })
-    (thinnedOutcome i preserve)
+outcomeBy Admitted i =
+    cond (stuck i)
+    (record { answer = stuckAnswer (bordersHeld i); points = []; faces = []; worked = true })
+    (thinnedOutcome i)
 
-unfoldable pub outcome : Input → Bool → Outcome
-outcome i preserve = outcomeBy (verdictOf i) i preserve
+-- the outcome of an input
+unfoldable pub outcome : Input → Outcome
+outcome i = outcomeBy (verdictOf i) i
 
 -- ---- the folds made
 
--- the folds of an input, in order, by what the checks say of it: none where it isn't walked
-unfoldable pub foldsBy : Verdict → Input → Bool → List Pair
-foldsBy (Refused number place) i preserve = []
-foldsBy Copied i preserve = []
-foldsBy Admitted i preserve = foldsWalked i preserve
+-- the folds of an input, by what the checks say of it: none where it isn't walked
+unfoldable pub foldsBy : Verdict → Input → List Pair
+foldsBy (Refused number place) i = []
+foldsBy Copied i = []
+foldsBy Admitted i = foldsWalked i
 
-unfoldable pub foldsOf : Input → Bool → List Pair
-foldsOf i preserve = foldsBy (verdictOf i) i preserve
+-- the folds of an input, in order
+unfoldable pub foldsOf : Input → List Pair
+foldsOf i = foldsBy (verdictOf i) i
 
 -- keep and remove of each
 unfoldable pub pairNumbers : List Pair → List ℕ

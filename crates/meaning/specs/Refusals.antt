@@ -13,19 +13,23 @@ use Rattle.meaning.specs.declared.Verdict.the-variants.{Refused, Copied,
 use Rattle.meaning.specs.Input.{Input}
 use Rattle.meaning.specs.Answers.{zeroFloat, oneFloat, faceVerdict, contentsVerdict, verdictOf}
 
+-- 2.0
 abbrev two : Float
 two = fin false 1 (pos 1)
 
+-- 0.5
 abbrev half : Float
 half = fin false 1 (negsuc 0)
 
--- 1,048,576.0 and the next f32 above it
+-- 1,048,576.0
 abbrev most : Float
 most = fin false 1 (pos 20)
 
+-- the next f32 above it
 abbrev above : Float
 above = fin false 8388609 (negsuc 2)
 
+-- -0.0
 abbrev minusZero : Float
 minusZero = fin true 0 (pos 0)
 
@@ -37,11 +41,11 @@ square z b c ratio limit f64s =
       points = o ∷ o ∷ o ∷ two ∷ o ∷ o ∷ two ∷ two ∷ o ∷ o ∷ two ∷ o ∷ oneFloat ∷ oneFloat ∷ z ∷ [];
       faces = 0 ∷ 1 ∷ 4 ∷ 1 ∷ 2 ∷ 4 ∷ 2 ∷ 3 ∷ 4 ∷ 3 ∷ b ∷ c ∷ [];
       rooms = record { points = 15; faces = 12; u32s = 208; f32s = 68; f64s = f64s };
-      ratio = ratio;
-      limit = limit;
+      options = record { ratio = ratio; preserve = false; limit = limit };
       bound = most;
     }
 
+-- inputs, each with its verdict
 abbrev pub cases : List (Input × Verdict)
 cases =
     (square zeroFloat 0 4 half Unlimited 104, Admitted)
@@ -62,6 +66,7 @@ cases =
     ∷ (square zeroFloat 3 4 half Unlimited 104, Refused 9 3)
     ∷ []
 
+-- the verdicts come out
 pub refusals-hold : map (λ c. verdictOf (c .0)) cases ≡ map (λ c. c .1) cases
 unfolding verdictOf contentsVerdict faceVerdict some firstOf below lt eq le neg isNan
 refusals-hold = refl

@@ -1,6 +1,6 @@
 -- The mesh that the memory stands for: what it says of each point, what storing one point does to it, and what of the u32 memory it hangs on.
 -- Assumes nothing.
-use Prim.Native.Nat.{ℕ, _*_, _≤_, _<_}
+use Prim.Native.Nat.{ℕ, _+_, _*_, _≤_, _<_}
 use native.Mathlib.Omega.{arith}
 use mathlib.Core.Path.{_≡_}
 use mathlib.Core.List.{List, map}
@@ -12,11 +12,15 @@ use Rattle.placement.specs.declared.pair.Vertex.{Vertex}
 use Rattle.placement.specs.Choices.{kindOf}
 use Rattle.walk.specs.declared.Face.{Face}
 use Rattle.lists.specs.Lists.{below}
+use Rattle.lists.specs.Frames.{But}
+use Rattle.walk.specs.Faces.{faceAt}
 use Rattle.walk.specs.Points.{Mesh}
-use Rattle.memory.specs.Memory.{kind, liveFaces}
+use Rattle.memory.specs.Memory.{kind, lives, liveFaces}
+use Rattle.memory.specs.Layout.{kindsFrom, marksFrom}
 use Rattle.memory.specs.Points.{vertexAt, withPoint, withQuadric, meshOf}
 use Rattle.memory.proofs.PointLaws.{point-stored, point-other, quadric-stored, quadric-other}
-use Rattle.lists.proofs.EachLaws.{length-each, getD-each, each-same, each-moved}
+use Rattle.lists.proofs.BelowLaws.{length-each, getD-each, each-same, each-moved, kept-same}
+use Rattle.memory.proofs.FrameLaws.{lives-but, face-but}
 
 -- two meshes with the same points and the same faces
 pub mesh-of-parts : (points points' : List Vertex) (faces faces' : List Face) → points ≡ points' → faces ≡ faces' →
@@ -49,3 +53,10 @@ pub mesh-same : (v f : ℕ) (w w' : List ℕ) (p q : List Float) →
 unfolding meshOf
 mesh-same v f w w' p q kinds faces =
     mesh-of-parts _ _ _ _ (each-same (vertexAt v f w p q) (vertexAt v f w' p q) v (λ x h. rw (kinds x h))) faces
+
+-- and those on the cells below the marks
+pub mesh-but : (v f : ℕ) {lo hi : ℕ} {w w' : List ℕ} (p q : List Float) → But lo hi w w' → marksFrom v f ≤ lo → meshOf v f w' p q ≡ meshOf v f w p q
+unfolding liveFaces
+mesh-but v f {lo} {hi} {w} {w'} p q but above =
+    mesh-same v f w w' p q (λ x l. but .under (kindsFrom v f + x) (omega arith))
+    (kept-same (faceAt w') (faceAt w) (lives f w') (lives f w) f (lives-but but (omega arith)) (face-but but (omega arith)))

@@ -1,20 +1,45 @@
-// What stands where in the lent memory: each part by its name, read and written.
+// What stands where in the lent work memory: where each part begins, and its cells read and written by name.
 mod cells;
+mod entries;
+mod layout;
 mod points;
 
+pub use cells::around_at;
 pub use cells::corner_at;
 pub use cells::face_in;
 pub use cells::first_at;
 pub use cells::kind_at;
 pub use cells::live_at;
 pub use cells::mark_at;
+pub use cells::near_at;
 pub use cells::next_at;
+pub use cells::set_around;
 pub use cells::set_corner;
 pub use cells::set_first;
 pub use cells::set_kind;
 pub use cells::set_live;
 pub use cells::set_mark;
 pub use cells::set_next;
+pub use entries::cost_at;
+pub use entries::keep_at;
+pub use entries::keep_stamp_at;
+pub use entries::note_fold;
+pub use entries::remove_at;
+pub use entries::remove_stamp_at;
+pub use entries::set_cost;
+pub use entries::set_pair;
+pub use entries::set_slot;
+pub use entries::set_stamp;
+pub use entries::set_stamps;
+pub use entries::slot_at;
+pub use entries::stamp_at;
+pub use entries::swap_slots;
+pub use layout::far_from;
+pub use layout::firsts_from;
+pub use layout::folds_from;
+pub use layout::lives_from;
+pub use layout::near_from;
+pub use layout::stamps_from;
 pub use points::point_at;
 pub use points::quadric_at;
 pub use points::set_point;

@@ -4,6 +4,7 @@ ghost use Prim.Native.Nat.{_+_, _*_, _<_};
 ghost use lib.ListN.{length};
 ghost use Rattle.meaning.specs.Input.{pointAt};
 ghost use Rattle.memory.specs.Points.{quadricAt, vertexAt, withPoint, withQuadric};
+ghost use Rattle.memory.specs.Layout.{kindsFrom};
 use geometry::Point;
 use geometry::Quadric;
 use placement::pair::Vertex;
@@ -42,7 +43,7 @@ pub fn quadric_at(q: &[f64], x: usize) -> Quadric
 
 // All that a point carries.
 pub fn vertex_at(w: &[u32], p: &[f32], q: &[f64], v: usize, f: usize, x: usize) -> Vertex
-    requires { ⌜ 7 * f + v + x < length (now w) ⌝ ∗ ⌜ 3 * x + 2 < length (now p) ⌝ ∗ ⌜ 10 * x + 9 < length (now q) ⌝ }
+    requires { ⌜ kindsFrom v f + x < length (now w) ⌝ ∗ ⌜ 3 * x + 2 < length (now p) ⌝ ∗ ⌜ 10 * x + 9 < length (now q) ⌝ }
     ensures { λ r. ⌜ r ≡ vertexAt v f (now (w .entry)) (now (p .entry)) (now (q .entry)) x ⌝ }
 {
     Vertex {

@@ -11,14 +11,13 @@ use borrow.Author.Tests.{lt-ltb}
 use Rattle.walk.specs.declared.Face.{Face}
 use Rattle.lists.specs.Lists.{sum, those, below, stretch}
 use Rattle.walk.specs.Faces.{holds, faceAt}
-use Rattle.memory.specs.Memory.{lives, liveFaces}
+use Rattle.memory.specs.Memory.{lives, liveFaces, liveAt}
 use Rattle.lists.specs.Frames.{But}
 use Rattle.mesh.specs.Contracts.Around.{Gathered}
-use Rattle.memory.specs.Memory.{liveAt}
 use Rattle.lists.proofs.CondLaws.{cond-and, cond-self}
 use Rattle.lists.proofs.SumLaws.{sum-map, sum-those}
-use Rattle.lists.proofs.BelowSums.{sum-same-below, sum-none, sum-ones, count-most, every-counted}
-use Rattle.lists.proofs.BelowLaws.{kept-same, map-same}
+use Rattle.lists.proofs.BelowLaws.{sum-same-below, sum-none, sum-ones, count-below-most, kept-same, map-same-below}
+use Rattle.lists.proofs.EveryLaws.{every-counted}
 use Rattle.memory.proofs.FrameLaws.{lives-but, face-but, live-at-but}
 
 -- a change above the flags leaves the live faces
@@ -42,7 +41,7 @@ sum-slots g w base n = sum-map g (λ i. getD w (base + i) 0) (below n)
 pub gathered-by : (v f : ℕ) (w : List ℕ) (x base n : ℕ) →
     ((g : ℕ → ℕ) → sum g (stretch w base n) ≡ sum (λ k. cond (liveAt f w x k) (g k) 0) (below f)) → Gathered v f w x base n
 gathered-by v f w x base n sums = record {
-  few = omega (arith, sums (λ k. 1), sum-slots (λ k. 1) w base n, sum-ones n, count-most (λ k. liveAt f w x k) f);
+  few = omega (arith, sums (λ k. 1), sum-slots (λ k. 1) w base n, sum-ones n, count-below-most (λ k. liveAt f w x k) f);
   slots-live =
       every-counted (λ k. ltb k f && liveAt f w x k) (stretch w base n)
       (sums (λ k. cond (ltb k f && liveAt f w x k) 0 1) ∙ sum-none _ f (λ k l. rw (lt-ltb k f l) (cond-self (liveAt f w x k))));
@@ -54,7 +53,7 @@ pub gathered-but : {v f lo hi : ℕ} {w w' : List ℕ} {x base n : ℕ} → But 
     ((i : ℕ) → i < n → getD w' (base + i) 0 ≡ getD w (base + i) 0) → Gathered v f w x base n → Gathered v f w' x base n
 gathered-but {v} {f} {lo} {hi} {w} {w'} {x} {base} {n} but above same h =
     gathered-by v f w' x base n (λ g.
-    ap (sum g) (map-same (λ i. getD w' (base + i) 0) (λ i. getD w (base + i) 0) n same)
+    ap (sum g) (map-same-below (λ i. getD w' (base + i) 0) (λ i. getD w (base + i) 0) n same)
     ∙ h .sums g
     ∙ sum-same-below _ _ f (λ k l. ap (λ (b : Bool). cond b (g k) 0) (sym (live-at-but but above k l x))))
 

@@ -12,11 +12,10 @@ use borrow.Author.Tests.{eqb-true, eqb-false, ltb-true}
 use Rattle.walk.specs.declared.Face.{Face}
 use Rattle.lists.specs.Lists.{sum, below}
 use Rattle.walk.specs.Faces.{holds, proper, faceAt}
-use Rattle.memory.specs.Memory.{corner, lives, Proper}
-use Rattle.memory.specs.Memory.{liveAt}
-use Rattle.lists.proofs.CondLaws.{by-outcome, eqb-sym, not-two, cond-three}
-use Rattle.lists.proofs.TestLaws.{differ}
-use Rattle.lists.proofs.BelowSums.{sum-same-below, sum-threes}
+use Rattle.memory.specs.Memory.{corner, lives, Proper, liveAt}
+use Rattle.lists.proofs.TestLaws.{by-outcome, eqb-sym, not-two, differ}
+use Rattle.lists.proofs.CondLaws.{cond-three}
+use Rattle.lists.proofs.BelowLaws.{sum-same-below, sum-threes}
 
 -- what a proper face is, said of its points
 pub record Points (v : ℕ) (p : Face) : Type 0 where

@@ -10,7 +10,7 @@ use Rattle.geometry.specs.Quadrics.{sum}
 use Rattle.walk.specs.declared.Face.{Face}
 use Rattle.lists.specs.Lists.{every}
 use Rattle.walk.specs.Faces.{holds, proper}
-use Rattle.lists.proofs.ListLaws.{every-head, every-tail}
+use Rattle.lists.proofs.EveryLaws.{every-head, every-tail}
 use Rattle.walk.proofs.FaceLaws.{corners}
 use Rattle.meaning.specs.Input.{pointAt}
 use Rattle.meaning.specs.Start.{faceQuadric, gathered}

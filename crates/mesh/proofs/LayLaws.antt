@@ -15,11 +15,12 @@ use Rattle.mesh.specs.Contracts.Chains.{Tidy}
 use Rattle.lists.specs.Frames.{Written}
 use Rattle.mesh.specs.Contracts.Laying.{Joined}
 use Rattle.mesh.specs.Contracts.Laid.{Laid}
-use Rattle.lists.proofs.BelowLaws.{every-at, kept-same}
-use Rattle.lists.proofs.ThoseLaws.{those-all}
+use Rattle.lists.proofs.BelowLaws.{every-each, kept-same}
+use Rattle.lists.proofs.EveryLaws.{those-all}
 use Rattle.lists.proofs.FrameLaws.{but-then, but-widen}
 use Rattle.memory.proofs.FrameLaws.{face-but}
 use Rattle.mesh.proofs.FaceCorners.{corner-below}
+use Rattle.memory.specs.Layout.{firstsFrom, livesFrom, marksFrom}
 
 -- w₁ has the corners, w₂ the flags too, w₃ zeros for first links, kinds and marks, and w₄ the links
 module _ (faces : List ℕ) {v f : ℕ} {w w₁ w₂ w₃ : List ℕ} (room : Room v f w) (all-proper : every (proper v) (facesOf f faces) ≡ true)
@@ -33,7 +34,7 @@ module _ (faces : List ℕ) {v f : ℕ} {w w₁ w₂ w₃ : List ℕ} (room : Ro
   face-is k l = rw (corner-is (3 * k) (omega arith), corner-is (3 * k + 1) (omega arith), corner-is (3 * k + 2) (omega arith))
 
   face-proper : (k : ℕ) → k < f → proper v (faceAt w₃ k) ≡ true
-  face-proper k l = ap (proper v) (face-is k l) ∙ every-at (proper v) _ f all-proper k l
+  face-proper k l = ap (proper v) (face-is k l) ∙ every-each (proper v) _ f all-proper k l
 
   room-still : Room v f w₃
   room-still = omega (arith, copied .but, alive .but, cleared .but)
@@ -47,7 +48,7 @@ module _ (faces : List ℕ) {v f : ℕ} {w w₁ w₂ w₃ : List ℕ} (room : Ro
     -- every face is live, the memory is tidy, and the faces are the given ones
     all-live : (k : ℕ) → k < f → lives f w₄ k ≡ true
     all-live k l =
-        eq-eqb (live f w₄ k) 1 (joined .but .under (3 * f + k) (omega arith) ∙ cleared .but .under (3 * f + k) (omega arith) ∙ alive .cells k l)
+        eq-eqb (live f w₄ k) 1 (joined .but .under (livesFrom f + k) (omega arith) ∙ cleared .but .under (livesFrom f + k) (omega arith) ∙ alive .cells k l)
 
     laid-tidy : Tidy v f w₄
     laid-tidy = record {
@@ -57,8 +58,8 @@ module _ (faces : List ℕ) {v f : ℕ} {w w₁ w₂ w₃ : List ℕ} (room : Ro
       chains = joined .chains;
       live-listed = λ c l e. refl;
       unmarked = λ x l.
-          let here : 7 * f + 2 * v + x ≡ 7 * f + (2 * v + x) = omega arith in
-          joined .but .over (7 * f + 2 * v + x) (omega arith) ∙ rw here (cleared .cells (2 * v + x) (omega arith));
+          let here : marksFrom v f + x ≡ firstsFrom f + (2 * v + x) = omega arith in
+          joined .but .over (marksFrom v f + x) (omega arith) ∙ rw here (cleared .cells (2 * v + x) (omega arith));
     }
 
     laid-faces : liveFaces f w₄ ≡ facesOf f faces

@@ -1,16 +1,15 @@
 -- The turns of the loops that lay points and quadrics out.
 -- Assumes nothing.
 use Prim.Native.Nat.{ℕ, _+_, _*_, _≤_, _<_}
-use native.Mathlib.Nat.{zero-add}
 use native.Mathlib.Numerals.{add-one}
 use native.Mathlib.Omega.{arith}
-use mathlib.Core.Path.{_≡_, refl, sym, ap, _∙_}
+use mathlib.Core.Path.{_≡_, refl, sym, ap, subst, _∙_}
 use mathlib.Core.List.{List, [], _∷_, _++_, map, map-append}
 use mathlib.Core.Bool.{Bool, true, cond}
 use lib.Dec.{eqb}
 use lib.Ieee.{Float, nan}
-use lib.ListN.{length, getD, take, drop, set, List·getD-append}
-use lib.Seq.{length-take-le, length-front, getD-take, drop-at, drop-drop, paste-suc}
+use lib.ListN.{length, take, drop, List·getD-append}
+use lib.Seq.{length-take-le, length-front, getD-take, drop-at, drop-drop, take-length}
 use borrow.Author.Count.{below-none, below-more}
 use borrow.Author.Tests.{eqb-true, eqb-false, ne-eqb}
 use Rattle.geometry.specs.declared.Quadric.{Quadric}
@@ -26,13 +25,13 @@ use Rattle.meaning.specs.Start.{faceQuadric, gathered}
 use Rattle.mesh.specs.Contracts.Quadrics.{withSum, withFace, QuadricsAre}
 use Rattle.memory.proofs.PointLaws.{point-same, quadric-stored, quadric-other, quadric-length, quadric-rest}
 use Rattle.mesh.proofs.GatheredLaws.{gathered-next}
+use Rattle.lists.specs.Frames.{overlaid}
 
 -- ---- points
 
--- one cell more of a copy
-pub copied-more : {A : Type 0} (s d : List A) (i : ℕ) (z : A) → i < length s → i < length d →
-    set (take i s ++ drop i d) i (getD s i z) ≡ take (i + 1) s ++ drop (i + 1) d
-copied-more s d i z from to = rw add-one (simp zero-add at (paste-suc d 0 s i z (rw zero-add to) from))
+-- a list that is as long as the points' cells
+pub points-copied : (v : ℕ) (points p : List Float) → length points ≡ 3 * v → overlaid points p ≡ withPoints v points p
+points-copied v points p long = subst (λ (n : ℕ). overlaid points p ≡ take n points ++ drop n p) long (rw take-length refl)
 
 module _ (v : ℕ) (points p : List Float) (long : 3 * v ≤ length points) where
   -- each point is the one of the list

@@ -10,18 +10,18 @@ use lib.ListN.{length, getD, length-map}
 use Rattle.geometry.specs.Quadrics.{zeroQuadric}
 use Rattle.lists.specs.Lists.{those, every, count, below}
 use Rattle.walk.specs.Faces.{proper, facesOf, borderPoint, faceAt}
-use Rattle.lists.proofs.SumLaws.{every-count, every-at, every-from, length-below, getD-below}
-use Rattle.lists.proofs.ListLaws.{every-head, every-tail, length-those, count-not}
+use Rattle.lists.proofs.EveryLaws.{every-count, every-at, every-from, every-head, every-tail, length-those, count-not}
+use Rattle.lists.proofs.BelowLaws.{length-below, getD-below, length-each, getD-each, each-same}
 use Rattle.memory.specs.Memory.{kind, lives, liveFaces}
 use Rattle.mesh.specs.Contracts.Laid.{Laid, Bordered}
 use Rattle.meaning.specs.Input.{pointAt}
 use Rattle.memory.specs.Points.{quadricAt, withPoints, vertexAt, meshOf}
 use Rattle.meaning.specs.Start.{gathered, startVertex, startMesh}
 use Rattle.mesh.specs.Contracts.Quadrics.{QuadricsAre}
-use Rattle.lists.proofs.EachLaws.{length-each, getD-each, each-same}
 use Rattle.memory.proofs.MeshLaws.{mesh-of-parts}
 use Rattle.mesh.proofs.GatheredLaws.{gathered-same}
 use Rattle.mesh.proofs.QuadricLaws.{points-laid}
+use Rattle.memory.specs.Layout.{livesFrom}
 
 -- ---- f live faces in f slots are in all of them
 
@@ -65,7 +65,7 @@ bordered-laid {v} {f} {n} {preserve} {faces} {w₀} {w} {w'} laid bordered =
     let live : every (lives f w') (below f) ≡ true =
     every-from (lives f w') 0 (below f)
     (λ k l. let k-f : k < f = rw length-below at l in
-    rw (getD-below f k k-f, kept (3 * f + k) (omega arith)) (rw (getD-below f k k-f) at (before k l))) in
+    rw (getD-below f k k-f, kept (livesFrom f + k) (omega arith)) (rw (getD-below f k k-f) at (before k l))) in
     ap (map (faceAt w')) (those-every (lives f w') (below f) live)
     ∙ each-same (faceAt w) (faceAt w') f
     (λ k l. rw (kept (3 * k) (omega arith), kept (3 * k + 1) (omega arith), kept (3 * k + 2) (omega arith)))

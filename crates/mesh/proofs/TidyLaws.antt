@@ -9,18 +9,18 @@ use lib.Dec.{eqb}
 use borrow.Author.Tests.{eq-eqb, eqb-true}
 use Rattle.lists.specs.Lists.{sum, count, below}
 use Rattle.walk.specs.Faces.{holds, proper, faceAt}
-use Rattle.memory.specs.Memory.{corner, lives, Unmarked}
+use Rattle.memory.specs.Memory.{corner, lives, Unmarked, liveAt}
 use Rattle.lists.specs.Frames.{But}
 use Rattle.mesh.specs.Contracts.Chains.{Tidy}
-use Rattle.memory.specs.Memory.{liveAt}
 use Rattle.lists.proofs.CondLaws.{cond-swap, cond-implied, cond-within}
-use Rattle.lists.proofs.BelowSums.{sum-same-below, sum-single}
+use Rattle.lists.proofs.BelowLaws.{sum-same-below, sum-single}
 use Rattle.memory.proofs.FrameLaws.{lives-but, face-but}
 use Rattle.mesh.proofs.ChainLaws.{chains-but}
 use Rattle.mesh.proofs.FaceCorners.{corner-below, corners-faces}
+use Rattle.memory.specs.Layout.{kindsFrom, marksFrom, stampsFrom}
 
 -- cells above the links change, and no mark is left
-pub tidy-again : {v f lo hi : ℕ} {w w' : List ℕ} → 7 * f + v ≤ lo → But lo hi w w' → Unmarked v f w' → Tidy v f w → Tidy v f w'
+pub tidy-again : {v f lo hi : ℕ} {w w' : List ℕ} → kindsFrom v f ≤ lo → But lo hi w w' → Unmarked v f w' → Tidy v f w → Tidy v f w'
 tidy-again {v} {f} {lo} {hi} {w} {w'} above but unmarked t = record {
   room = omega arith;
   faces-proper = λ k l e. ap (proper v) (face-but but (omega arith) k l) ∙ t .faces-proper k l (sym (lives-but but (omega arith) k l) ∙ e);
@@ -31,8 +31,8 @@ tidy-again {v} {f} {lo} {hi} {w} {w'} above but unmarked t = record {
 }
 
 -- cells above the marks change
-pub tidy-but : {v f lo hi : ℕ} {w w' : List ℕ} → 7 * f + 3 * v ≤ lo → But lo hi w w' → Tidy v f w → Tidy v f w'
-tidy-but {v} {f} above but t = tidy-again (omega arith) but (λ x l. but .under (7 * f + 2 * v + x) (omega arith) ∙ t .unmarked x l) t
+pub tidy-but : {v f lo hi : ℕ} {w w' : List ℕ} → stampsFrom v f ≤ lo → But lo hi w w' → Tidy v f w → Tidy v f w'
+tidy-but {v} {f} above but t = tidy-again (omega arith) but (λ x l. but .under (marksFrom v f + x) (omega arith) ∙ t .unmarked x l) t
 
 module _ {v f : ℕ} {w : List ℕ} (t : Tidy v f w) where
   -- a weight summed over the corners of live faces in a point's chain, and over the live faces that hold the point

@@ -13,17 +13,17 @@ use lib.ListN.{length, getD, set}
 use lib.Seq.{getD-set-same, getD-set-other}
 use borrow.Author.Tests.{eq-eqb, ne-eqb}
 use Rattle.lists.specs.Lists.{sum, below, stretch}
-use Rattle.memory.specs.Memory.{corner, next, first, live, lives}
+use Rattle.memory.specs.Memory.{corner, next, first, live, lives, liveAt}
 use Rattle.lists.specs.Frames.{But}
 use Rattle.mesh.specs.Contracts.Chains.{Linked, Tidy}
 use Rattle.mesh.specs.Contracts.Around.{Collected}
-use Rattle.memory.specs.Memory.{liveAt}
-use Rattle.lists.proofs.SumLaws.{sum-length, sum-below}
-use Rattle.lists.proofs.BelowSums.{sum-same-below, sum-ones, count-most}
+use Rattle.lists.proofs.SumLaws.{sum-length}
+use Rattle.lists.proofs.BelowLaws.{sum-below, sum-same-below, sum-ones, count-below-most}
 use Rattle.lists.proofs.FrameLaws.{but-refl, but-then, but-set}
 use Rattle.memory.proofs.FrameLaws.{live-at-but}
 use Rattle.mesh.proofs.TidyLaws.{around}
 use Rattle.mesh.proofs.AroundLaws.{sum-slots, gathered-by}
+use Rattle.memory.specs.Layout.{livesFrom, nextsFrom}
 
 -- ---- along a chain
 
@@ -88,7 +88,7 @@ start {v} {f} {w} {x} base link-is t l = record {
   linked = rw link-is (t .chains .linked x l);
   short =
       omega
-      (arith, sum-length (t .chains .chain x), t .chains .sums x l (λ c. 1), count-most (λ c. t .listed c && eqb (corner w c) x) (3 * f));
+      (arith, sum-length (t .chains .chain x), t .chains .sums x l (λ c. 1), count-below-most (λ c. t .listed c && eqb (corner w c) x) (3 * f));
   but = but-refl base (base + f) w;
   sums = λ g. zero-add _ ∙ around t x l g;
 }
@@ -113,7 +113,7 @@ module _ {v f : ℕ} {w₀ : List ℕ} {x base : ℕ} {w : List ℕ} {n link : �
 
   module _ {onward : ℕ} (onward-is : onward ≡ next f w (link - 1)) where
     onward-linked : Linked f w₀ onward (next-ahead .rest)
-    onward-linked = rw (onward-is ∙ h .but .under (4 * f + (link - 1)) (omega (arith, inside))) (next-ahead .onward)
+    onward-linked = rw (onward-is ∙ h .but .under (nextsFrom f + (link - 1)) (omega (arith, inside))) (next-ahead .onward)
 
     -- the chain gets shorter
     shorter : suc (length (next-ahead .rest)) ≤ 3 * f
@@ -130,7 +130,7 @@ module _ {v f : ℕ} {w₀ : List ℕ} {x base : ℕ} {w : List ℕ} {n link : �
 
     module _ {flag : ℕ} (flag-is : flag ≡ live f w ((link - 1) / 3)) where
       flag-was : flag ≡ live f w₀ ((link - 1) / 3)
-      flag-was = flag-is ∙ h .but .under (3 * f + (link - 1) / 3) (omega (arith, inside))
+      flag-was = flag-is ∙ h .but .under (livesFrom f + (link - 1) / 3) (omega (arith, inside))
 
       -- a dead face is passed over
       pub passed : flag ≢ 1 → Walk v f w₀ x base w n onward
@@ -150,7 +150,7 @@ module _ {v f : ℕ} {w₀ : List ℕ} {x base : ℕ} {w : List ℕ} {n link : �
 
         -- there is room for a live one
         pub some-room : n < f
-        some-room = omega (arith, sums-alive (λ k. 1), sum-slots (λ k. 1) w base n, sum-ones n, count-most (λ k. liveAt f w₀ x k) f)
+        some-room = omega (arith, sums-alive (λ k. 1), sum-slots (λ k. 1) w base n, sum-ones n, count-below-most (λ k. liveAt f w₀ x k) f)
 
         -- a live face is listed
         pub noted : base + f ≤ length w₀ → Walk v f w₀ x base (set w (base + n) ((link - 1) / 3)) (n + 1) onward

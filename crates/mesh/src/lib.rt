@@ -3,7 +3,6 @@ mod laying;
 mod links;
 mod quadrics;
 
-pub use laying::fill;
 pub use laying::lay_faces;
 pub use links::collect;
 pub use links::push_corner;

@@ -19,12 +19,10 @@ use walk::Face;
 
 // The places of the v points.
 pub fn lay_points(points: &[f32], p: &mut [f32], v: usize)
-    requires { ⌜ 3 * v ≤ length (now points) ⌝ ∗ ⌜ 3 * v ≤ length (now p) ⌝ }
+    requires { ⌜ length (now points) ≡ 3 * v ⌝ ∗ ⌜ 3 * v ≤ length (now p) ⌝ }
     ensures { λ _. ⌜ now (p .exit) ≡ withPoints v (now (points .entry)) (now (p .entry)) ⌝ }
 {
-    for i in 0..3 * v {
-        p[i] = points[i];
-    }
+    lists::copy_f32(points, p);
 }
 
 // Every quadric starts at zero.

@@ -15,35 +15,25 @@ use Rattle.walk.specs.Pairs.{pairOf, eligiblePair}
 use Rattle.lists.proofs.SumLaws.{sum-map, sum-those, sum-length}
 use Rattle.walk.proofs.OpenSums.{opened-sum}
 use Rattle.memory.specs.Memory.{liveFaces}
-use Rattle.lists.specs.Frames.{But}
 use Rattle.mesh.specs.Contracts.Chains.{Tidy}
 use Rattle.lists.proofs.CondLaws.{cond-and}
-use Rattle.lists.proofs.BelowSums.{sum-same-below}
-use Rattle.lists.proofs.BelowLaws.{map-same}
+use Rattle.lists.proofs.BelowLaws.{sum-same-below}
 use Rattle.lists.proofs.FrameLaws.{but-then, but-widen}
-use Rattle.mesh.proofs.AroundLaws.{live-faces-but}
-use Rattle.memory.specs.Points.{vertexAt, meshOf}
+use Rattle.memory.specs.Points.{meshOf}
 use Rattle.meaning.specs.Arithmetic.{rulesOf}
 use Rattle.openpairs.specs.State.{openPairs}
 use Rattle.openpairs.specs.Contracts.Changes.{Added}
 use Rattle.openpairs.proofs.OpenLaws.{open-same}
 use Rattle.openpairs.proofs.MeshLaws.{mesh-points, mesh-data}
-use Rattle.ring.specs.Contracts.Listing.{isAround, Listed}
+use Rattle.ring.specs.Contracts.Listing.{isAround, AroundListed}
 use Rattle.ring.proofs.ListedLaws.{listed-few, listed-within}
 use Rattle.openpairs.specs.Contracts.Edges.{risingFrom, openedAround}
 use Rattle.openpairs.specs.Contracts.Waiting.{fits, waiting, Ready}
 use Rattle.openpairs.proofs.WaitLaws.{waits, waiting-sum, fits-but}
-
--- the mesh, where its cells stay
-pub mesh-but : (v f : ℕ) {lo hi : ℕ} {w w' : List ℕ} (p q : List Float) → But lo hi w w' → 7 * f + 2 * v ≤ lo → meshOf v f w' p q ≡ meshOf v f w p q
-unfolding meshOf
-mesh-but v f {lo} {hi} {w} {w'} p q but above =
-    let same-points = map-same (vertexAt v f w' p q) (vertexAt v f w p q) v (λ x l. rw (but .under (7 * f + v + x) (omega arith))) in
-    let same-faces = live-faces-but f but (omega arith) in
-    λ i. record { points = same-points i; faces = same-faces i }
+use Rattle.memory.specs.Layout.{keepsFrom, removesFrom}
 
 -- the definition, as a sum over the points
-around-sum : {D : Type 0} (rules : Rules D) (m : Mesh D) (rising : Bool) (x : ℕ) (g : Pair → ℕ) →
+pub around-sum : {D : Type 0} (rules : Rules D) (m : Mesh D) (rising : Bool) (x : ℕ) (g : Pair → ℕ) →
     sum g (openedAround rules m rising x)
     ≡ sum (λ y. cond (isAround rising (m .faces) x y && eligiblePair rules m (pairOf x y)) (g (pairOf x y)) 0) (below (length (m .points)))
 unfolding risingFrom
@@ -57,7 +47,7 @@ unfolding fits rulesOf
 fits-mesh v f w p q limit bound x y x-in y-in =
     rw (mesh-data v f w p q (rulesOf limit bound) x x-in, mesh-data v f w p q (rulesOf limit bound) y y-in)
 
-module _ {v f : ℕ} {w w₁ : List ℕ} {rising : Bool} {x count : ℕ} (done : Listed v f w rising x w₁ count) (x-in : x < v)
+module _ {v f : ℕ} {w w₁ : List ℕ} {rising : Bool} {x count : ℕ} (done : AroundListed v f w rising x w₁ count) (x-in : x < v)
     (p q : List Float) (limit : Limit) (bound : Float) where
   -- what waits is what is to be opened
   pub waiting-opened : (g : Pair → ℕ) →
@@ -109,7 +99,7 @@ module _ {v f : ℕ} {w w₁ : List ℕ} {rising : Bool} {x count : ℕ} (done :
   added {w'} {n} few more =
       let same-pairs : openPairs v f w₁ n ≡ openPairs v f w n =
       open-same v f w w₁ n
-      (λ i l. rw (done .but .under (7 * f + 4 * v + i) (omega arith), done .but .under (10 * f + 4 * v + i) (omega arith))) in
+      (λ i l. rw (done .but .under (keepsFrom v f + i) (omega arith), done .but .under (removesFrom v f + i) (omega arith))) in
       record {
         but = but-then (but-widen (omega arith) (omega arith) (done .but)) (more .but);
         sums = λ g. more .sums g ∙ ap₂ _+_ (ap (λ (ps : List Pair). sum g ps) same-pairs) (waiting-opened g);

@@ -14,13 +14,14 @@ use Rattle.memory.specs.Entries.{pairAt}
 use Rattle.openpairs.specs.State.{openPairs}
 use Rattle.openpairs.specs.Contracts.Changes.{Dropped}
 use Rattle.lists.proofs.FrameLaws.{but-refl, but-then}
-use Rattle.lists.proofs.AppendLaws.{those-next}
+use Rattle.lists.proofs.EveryLaws.{those-next}
 use Rattle.openpairs.proofs.OpenLaws.{open-none, open-next, pushed, pushed-but, pushed-other, pushed-grows}
+use Rattle.memory.specs.Layout.{keepsFrom, nearFrom}
 
 -- The first i pairs are looked at, and kept of them stay. Those to come are as they were.
 pub record Dropping (v f : ℕ) (w₀ : List ℕ) (keep remove : ℕ) (w : List ℕ) (kept i : ℕ) : Type 0 where
   pub fewer : kept ≤ i
-  pub but : But (7 * f + 4 * v) (13 * f + 4 * v) w₀ w
+  pub but : But (keepsFrom v f) (nearFrom v f) w₀ w
   pub ahead : (j : ℕ) → i ≤ j → j < 3 * f → pairAt v f w j ≡ pairAt v f w₀ j
   pub done : openPairs v f w kept ≡ those (apart (pairOf keep remove)) (openPairs v f w₀ i)
 

@@ -87,11 +87,11 @@ module _ {v f : ℕ} {w : List ℕ} {p q : List Float} {bound : Float} where
       (rw (ap (λ (x : Ranked). x .keep) (lead .same)) (here .0), rw (ap (λ (x : Ranked). x .remove) (lead .same)) (here .1))
 
   -- the least of all, as the walk has it
-  pub leading-least : {r : Ranked} {i n : ℕ} {place : Point} → i ≡ n → Named v f w n → Leading v f w p q bound r i →
-      place ≡ placeAt v f w p q bound (r .keep) (r .remove) → (limit : Limit) →
-      LeastAt v f w p q n limit bound (record { at = r .at; keep = r .keep; remove = r .remove; place = place })
+  pub leading-least : {r : Ranked} {i n : ℕ} {place : Point} {limit : Limit} → i ≡ n → Named v f w n → Leading v f w p q bound r i →
+      place ≡ placeAt v f w p q bound (r .keep) (r .remove) →
+      LeastAt v f w p q n limit bound (record { at = r .at; fold = record { keep = r .keep; remove = r .remove; place = place } })
   unfolding rankedAt
-  leading-least {r} {i} {n} e named end at-place limit =
+  leading-least {r} {i} {n} {limit = limit} e named end at-place =
       let known : (j : ℕ) → j < n → order (rulesOf limit bound) (meshOf v f w p q) (pairAt v f w j) ≡ rank (rankedAt v f w p q bound j) =
       λ j l. order-rank v f w p q bound j limit (named j l .0) (named j l .1) in
       let inside : r .at < n = omega (arith, end .within) in

@@ -8,9 +8,8 @@ use lib.Ieee.{Float}
 use Rattle.placement.specs.declared.pair.Vertex.{Vertex}
 use Rattle.lists.specs.Lists.{below}
 use Rattle.walk.specs.Points.{Rules, dataOf}
-use Rattle.lists.proofs.SumLaws.{length-below}
+use Rattle.lists.proofs.BelowLaws.{length-below, getD-each}
 use Rattle.memory.specs.Points.{vertexAt, meshOf}
-use Rattle.lists.proofs.EachLaws.{getD-each}
 
 module _ (v f : ℕ) (w : List ℕ) (p q : List Float) where
   pub mesh-points : length (meshOf v f w p q .points) ≡ v

@@ -12,7 +12,8 @@ use lib.Seq.{getD-set-same, getD-set-other}
 use Rattle.walk.specs.declared.Pair.{Pair}
 use Rattle.lists.specs.Lists.{sum, below}
 use Rattle.walk.specs.Pairs.{pairOf}
-use Rattle.lists.proofs.SumLaws.{sum-map, sum-append, sum-below, length-below}
+use Rattle.lists.proofs.SumLaws.{sum-map, sum-append}
+use Rattle.lists.proofs.BelowLaws.{sum-below, length-below, sum-same-below, sum-changed}
 use Rattle.walk.proofs.SamePairs.{pair-path}
 use Rattle.memory.specs.Memory.{Room}
 use Rattle.lists.specs.Frames.{But}
@@ -20,8 +21,7 @@ use Rattle.memory.specs.Entries.{pairAt}
 use Rattle.openpairs.specs.State.{openPairs}
 use Rattle.openpairs.specs.Contracts.Changes.{Closed}
 use Rattle.lists.proofs.FrameLaws.{but-then, but-set}
-use Rattle.lists.proofs.BelowSums.{sum-same-below}
-use Rattle.lists.proofs.AppendLaws.{sum-changed}
+use Rattle.memory.specs.Layout.{keepsFrom, nearFrom, removesFrom}
 
 module _ (v f : ℕ) where
   -- ---- the list by its places
@@ -54,32 +54,32 @@ module _ (v f : ℕ) where
 -- ---- a pair written into a place
 
 abbrev pub pushed : ℕ → ℕ → List ℕ → ℕ → ℕ → ℕ → List ℕ
-pushed v f w n keep remove = set (set w (7 * f + 4 * v + n) keep) (10 * f + 4 * v + n) remove
+pushed v f w n keep remove = set (set w (keepsFrom v f + n) keep) (removesFrom v f + n) remove
 
 module _ {v f : ℕ} {w : List ℕ} (room : Room v f w) (n keep remove : ℕ) (within : n < 3 * f) where
-  pub pushed-but : But (7 * f + 4 * v) (13 * f + 4 * v) w (pushed v f w n keep remove)
+  pub pushed-but : But (keepsFrom v f) (nearFrom v f) w (pushed v f w n keep remove)
   pushed-but =
-      but-then (but-set _ _ w (7 * f + 4 * v + n) keep (omega arith) (omega arith))
-      (but-set _ _ _ (10 * f + 4 * v + n) remove (omega arith) (omega arith))
+      but-then (but-set _ _ w (keepsFrom v f + n) keep (omega arith) (omega arith))
+      (but-set _ _ _ (removesFrom v f + n) remove (omega arith) (omega arith))
 
   -- it stands there
   pub pushed-here : pairAt v f (pushed v f w n keep remove) n ≡ pairOf keep remove
   pushed-here =
-      let first = set w (7 * f + 4 * v + n) keep in
+      let first = set w (keepsFrom v f + n) keep in
       pair-path
-      (getD-set-other first (10 * f + 4 * v + n) (7 * f + 4 * v + n) remove 0 (omega arith)
-      ∙ getD-set-same w (7 * f + 4 * v + n) keep 0 (omega arith))
-      (getD-set-same first (10 * f + 4 * v + n) remove 0 (simp length-set (omega arith)))
+      (getD-set-other first (removesFrom v f + n) (keepsFrom v f + n) remove 0 (omega arith)
+      ∙ getD-set-same w (keepsFrom v f + n) keep 0 (omega arith))
+      (getD-set-same first (removesFrom v f + n) remove 0 (simp length-set (omega arith)))
 
   -- and every other pair is as before
   pub pushed-other : (i : ℕ) → i < 3 * f → i ≢ n → pairAt v f (pushed v f w n keep remove) i ≡ pairAt v f w i
   pushed-other i inside other =
-      let first = set w (7 * f + 4 * v + n) keep in
+      let first = set w (keepsFrom v f + n) keep in
       pair-path
-      (getD-set-other first (10 * f + 4 * v + n) (7 * f + 4 * v + i) remove 0 (omega arith)
-      ∙ getD-set-other w (7 * f + 4 * v + n) (7 * f + 4 * v + i) keep 0 (omega arith))
-      (getD-set-other first (10 * f + 4 * v + n) (10 * f + 4 * v + i) remove 0 (omega arith)
-      ∙ getD-set-other w (7 * f + 4 * v + n) (10 * f + 4 * v + i) keep 0 (omega arith))
+      (getD-set-other first (removesFrom v f + n) (keepsFrom v f + i) remove 0 (omega arith)
+      ∙ getD-set-other w (keepsFrom v f + n) (keepsFrom v f + i) keep 0 (omega arith))
+      (getD-set-other first (removesFrom v f + n) (removesFrom v f + i) remove 0 (omega arith)
+      ∙ getD-set-other w (keepsFrom v f + n) (removesFrom v f + i) keep 0 (omega arith))
 
   -- after the last one, the list is longer by it
   pub pushed-grows : openPairs v f (pushed v f w n keep remove) (n + 1) ≡ openPairs v f w n ++ (pairOf keep remove ∷ [])

@@ -20,8 +20,9 @@ use Rattle.walk.specs.Points.{Rules, Mesh}
 use Rattle.walk.specs.Pairs.{pairOf}
 use Rattle.walk.specs.Walk.{started}
 use Rattle.lists.proofs.TestLaws.{flag-le}
-use Rattle.lists.proofs.SumLaws.{sum-map, sum-those, sum-same, sum-mono, sum-length, sum-below, length-below, getD-below, every-from}
-use Rattle.lists.proofs.ListLaws.{length-those, every-map, every-those}
+use Rattle.lists.proofs.SumLaws.{sum-map, sum-those, sum-same, sum-mono, sum-length}
+use Rattle.lists.proofs.BelowLaws.{sum-below, length-below, getD-below, sum-partial}
+use Rattle.lists.proofs.EveryLaws.{every-from, length-those, every-map, every-those}
 use Rattle.walk.proofs.OpenSums.{started-sum}
 use Rattle.walk.proofs.SoundLaws.{started-sound}
 use Rattle.walk.proofs.StepLaws.{open-bound}
@@ -36,8 +37,8 @@ use Rattle.openpairs.proofs.OpenLaws.{open-none, open-length}
 use Rattle.openpairs.proofs.MeshLaws.{mesh-points}
 use Rattle.openpairs.specs.Contracts.Edges.{risingFrom}
 use Rattle.lists.proofs.FrameLaws.{but-refl, but-then}
-use Rattle.openpairs.proofs.WaitLaws.{sum-partial}
-use Rattle.openpairs.proofs.AddLaws.{mesh-but}
+use Rattle.memory.proofs.MeshLaws.{mesh-but}
+use Rattle.memory.specs.Layout.{keepsFrom, orderFrom}
 
 -- ---- the mesh in memory
 
@@ -77,7 +78,7 @@ rising-sum rules m g =
 
 -- the pairs of the points below x are open
 pub record Starting (v f : ℕ) (w₀ : List ℕ) (p q : List Float) (limit : Limit) (bound : Float) (w : List ℕ) (n x : ℕ) : Type 0 where
-  pub but : But (7 * f + 4 * v) (15 * f + 5 * v) w₀ w
+  pub but : But (keepsFrom v f) (orderFrom v f) w₀ w
   pub sums : (g : Pair → ℕ) → sum g (openPairs v f w n) ≡ sum (λ y. sum g (risingFrom (rulesOf limit bound) (meshOf v f w₀ p q) y)) (below x)
 
 module _ {v f : ℕ} {w₀ : List ℕ} {p q : List Float} {limit : Limit} {bound : Float} where

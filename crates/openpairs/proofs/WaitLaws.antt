@@ -1,11 +1,10 @@
 -- The listed points, one after another: the pairs of those passed are open.
 -- Assumes nothing.
-use Prim.Native.Nat.{ℕ, zero, suc, _+_, _*_, _≤_, _<_}
-use native.Mathlib.Nat.{add-zero, eq-or-lt-of-le, le-of-suc-le-suc}
+use Prim.Native.Nat.{ℕ, _+_, _*_, _≤_, _<_}
+use native.Mathlib.Nat.{add-zero}
 use native.Mathlib.Numerals.{add-one}
 use native.Mathlib.Omega.{arith}
 use mathlib.Core.Path.{_≡_, sym, ap, _∙_}
-use mathlib.Core.Logic.{⊎-elim}
 use mathlib.Core.List.{List}
 use mathlib.Core.Bool.{Bool, true, false, cond}
 use lib.ListN.{getD}
@@ -14,7 +13,8 @@ use Rattle.placement.specs.declared.Limit.{Limit}
 use Rattle.walk.specs.declared.Pair.{Pair}
 use Rattle.lists.specs.Lists.{sum, below}
 use Rattle.walk.specs.Pairs.{pairOf}
-use Rattle.lists.proofs.SumLaws.{sum-map, sum-those, sum-below, sum-length}
+use Rattle.lists.proofs.SumLaws.{sum-map, sum-those, sum-length}
+use Rattle.lists.proofs.BelowLaws.{sum-below, sum-partial}
 use Rattle.memory.specs.Memory.{Room, aroundIn}
 use Rattle.lists.specs.Frames.{But}
 use Rattle.lists.proofs.FrameLaws.{but-refl, but-then, but-widen}
@@ -23,13 +23,7 @@ use Rattle.openpairs.specs.State.{openPairs}
 use Rattle.openpairs.specs.Contracts.Changes.{Added}
 use Rattle.openpairs.proofs.OpenLaws.{open-length, pushed, pushed-but, pushed-sum}
 use Rattle.openpairs.specs.Contracts.Waiting.{fits, waiting, Ready}
-
--- ---- partial sums
-
-pub sum-partial : (g : ℕ → ℕ) (a b : ℕ) → a ≤ b → sum g (below a) ≤ sum g (below b)
-sum-partial g a zero l = let e : a ≡ 0 = omega arith in rw e (omega arith)
-sum-partial g a (suc b) l =
-    ⊎-elim (λ e. rw e (omega arith)) (λ m. omega (arith, sum-partial g a b (le-of-suc-le-suc m), sum-below g b)) (eq-or-lt-of-le l)
+use Rattle.memory.specs.Layout.{aroundFrom, keepsFrom, kindsFrom, marksFrom, nearFrom}
 
 module _ (v f : ℕ) (w : List ℕ) (p q : List Float) (limit : Limit) (bound : Float) (x : ℕ) where
   -- ---- the pairs that wait, as a sum over the listed points and over their places
@@ -43,10 +37,10 @@ module _ (v f : ℕ) (w : List ℕ) (p q : List Float) (limit : Limit) (bound : 
   waiting-sum n g = sum-map g (pairOf x) _ ∙ sum-those (λ y. g (pairOf x y)) _ (aroundIn v f w n)
 
   abbrev waitsAt : (Pair → ℕ) → ℕ → ℕ
-  waitsAt g i = waits g (getD w (15 * f + 4 * v + i) 0)
+  waitsAt g i = waits g (getD w (aroundFrom v f + i) 0)
 
   waiting-places : (n : ℕ) (g : Pair → ℕ) → sum g (waiting v f w p q limit bound x n) ≡ sum (waitsAt g) (below n)
-  waiting-places n g = waiting-sum n g ∙ sum-slots (waits g) w (15 * f + 4 * v) n
+  waiting-places n g = waiting-sum n g ∙ sum-slots (waits g) w (aroundFrom v f) n
 
   waiting-none : (g : Pair → ℕ) → sum g (waiting v f w p q limit bound x 0) ≡ 0
   unfolding sum below
@@ -62,17 +56,17 @@ module _ (v f : ℕ) (w : List ℕ) (p q : List Float) (limit : Limit) (bound : 
       rw (waiting-places m (λ r. 1), waiting-places n (λ r. 1)) (sum-partial (waitsAt (λ r. 1)) m n l)
 
 -- a pair is eligible or not by what its points carry
-pub fits-but : (v f : ℕ) {lo hi : ℕ} {w w' : List ℕ} (p q : List Float) (limit : Limit) (bound : Float) (x y : ℕ) → But lo hi w w' → 7 * f + 2 * v ≤ lo →
+pub fits-but : (v f : ℕ) {lo hi : ℕ} {w w' : List ℕ} (p q : List Float) (limit : Limit) (bound : Float) (x y : ℕ) → But lo hi w w' → marksFrom v f ≤ lo →
     x < v → y < v → fits v f w' p q limit bound x y ≡ fits v f w p q limit bound x y
 unfolding fits
 fits-but v f p q limit bound x y but above x-in y-in =
-    rw (but .under (7 * f + v + x) (omega arith), but .under (7 * f + v + y) (omega arith))
+    rw (but .under (kindsFrom v f + x) (omega arith), but .under (kindsFrom v f + y) (omega arith))
 
 -- ---- one point after another
 
 -- the pairs of the first i listed points are open, and the list is as it was
 pub record Opening (v f : ℕ) (w₀ : List ℕ) (p q : List Float) (limit : Limit) (bound : Float) (x n : ℕ) (w : List ℕ) (now-open i : ℕ) : Type 0 where
-  pub but : But (7 * f + 4 * v) (13 * f + 4 * v) w₀ w
+  pub but : But (keepsFrom v f) (nearFrom v f) w₀ w
   pub sums : (g : Pair → ℕ) → sum g (openPairs v f w now-open) ≡ sum g (openPairs v f w₀ n) + sum g (waiting v f w₀ p q limit bound x i)
 
 module _ {v f : ℕ} {w₀ : List ℕ} {p q : List Float} {limit : Limit} {bound : Float} {x n : ℕ} where
@@ -89,29 +83,29 @@ module _ {v f : ℕ} {w₀ : List ℕ} {p q : List Float} {limit : Limit} {bound
     }
 
     -- the point that is read is one of the points
-    same-point : {y : ℕ} → y ≡ getD w (15 * f + 4 * v + i) 0 → y ≡ getD w₀ (15 * f + 4 * v + i) 0
-    same-point here = here ∙ before .but .over (15 * f + 4 * v + i) (omega arith)
+    same-point : {y : ℕ} → y ≡ getD w (aroundFrom v f + i) 0 → y ≡ getD w₀ (aroundFrom v f + i) 0
+    same-point here = here ∙ before .but .over (aroundFrom v f + i) (omega arith)
 
-    pub opening-point : {y : ℕ} → y ≡ getD w (15 * f + 4 * v + i) 0 → y < v
+    pub opening-point : {y : ℕ} → y ≡ getD w (aroundFrom v f + i) 0 → y < v
     opening-point here = omega (arith, same-point here, ready .points i inside)
 
     -- one more is looked at
-    looked : {y : ℕ} {t : Bool} → y ≡ getD w (15 * f + 4 * v + i) 0 → fits v f w p q limit bound x y ≡ t → (g : Pair → ℕ) →
+    looked : {y : ℕ} {t : Bool} → y ≡ getD w (aroundFrom v f + i) 0 → fits v f w p q limit bound x y ≡ t → (g : Pair → ℕ) →
         sum g (openPairs v f w₀ n) + sum g (waiting v f w₀ p q limit bound x (i + 1)) ≡ sum g (openPairs v f w now-open) + cond t (g (pairOf x y)) 0
     looked {y} {t} here tested g =
-        let one : waits v f w₀ p q limit bound x g (getD w₀ (15 * f + 4 * v + i) 0) ≡ cond t (g (pairOf x y)) 0 =
+        let one : waits v f w₀ p q limit bound x g (getD w₀ (aroundFrom v f + i) 0) ≡ cond t (g (pairOf x y)) 0 =
         rw (← same-point here)
         (ap (λ (b : Bool). cond b (g (pairOf x y)) 0)
         (sym (fits-but v f p q limit bound x y (before .but) (omega arith) (ready .point) (opening-point here)) ∙ tested)) in
         omega (arith, before .sums g, waiting-next v f w₀ p q limit bound x i g, one)
 
     -- its pair is not eligible
-    pub opening-refused : {y : ℕ} → y ≡ getD w (15 * f + 4 * v + i) 0 → fits v f w p q limit bound x y ≡ false →
+    pub opening-refused : {y : ℕ} → y ≡ getD w (aroundFrom v f + i) 0 → fits v f w p q limit bound x y ≡ false →
         Opening v f w₀ p q limit bound x n w now-open (i + 1)
     opening-refused here refused = record { but = before .but; sums = λ g. sym (add-zero _) ∙ sym (looked here refused g) }
 
     -- its pair is eligible: there is a place for it, and it is opened
-    module _ {y : ℕ} (here : y ≡ getD w (15 * f + 4 * v + i) 0) (fit : fits v f w p q limit bound x y ≡ true) where
+    module _ {y : ℕ} (here : y ≡ getD w (aroundFrom v f + i) 0) (fit : fits v f w p q limit bound x y ≡ true) where
       pub opening-place : now-open < 3 * f
       opening-place =
           omega (

@@ -3,12 +3,8 @@ mod opening;
 mod pairs;
 
 pub use opening::open_neighbours;
-pub use opening::open_rising;
 pub use opening::open_start;
 pub use pairs::Least;
 pub use pairs::close_pair;
 pub use pairs::drop_pairs;
-pub use pairs::keep_at;
 pub use pairs::least_pair;
-pub use pairs::push_pair;
-pub use pairs::remove_at;

@@ -1,25 +1,27 @@
 // The open pairs of the plain walk, in lent memory.
 use geometry::Point;
+use memory::keep_at;
+use memory::remove_at;
+use memory::set_pair;
 use memory::vertex_at;
+use placement::Bounds;
+use placement::Fold;
 use placement::pair::pair_cost;
 use placement::pair::pair_place;
 ghost use mathlib.Core.Path.{_≡_};
 ghost use Prim.Native.Nat.{_+_, _*_, _≤_, _<_};
 ghost use lib.Dec.{ltb};
-ghost use lib.ListN.{length, set};
-ghost use Rattle.placement.specs.declared.Limit.{Limit};
+ghost use lib.ListN.{length};
 ghost use Rattle.walk.specs.Pairs.{pairOf, apart};
 ghost use Rattle.memory.specs.Memory.{Room};
 ghost use Rattle.memory.specs.Entries.{pairAt};
 ghost use Rattle.openpairs.specs.Contracts.Ranks.{keyAt, placeAt, rankedAt, rank};
 ghost use Rattle.openpairs.specs.Contracts.Changes.{Named, LeastAt, Closed, Dropped};
 
-// The least open pair: its place in the list, its two points, and where the pair goes.
+// The least open pair: its place in the list, and the pair with where it goes.
 pub struct Least {
     pub at: usize,
-    pub keep: u32,
-    pub remove: u32,
-    pub place: Point,
+    pub fold: Fold,
 }
 
 // A pair, its place in the list, and the key of its cost.
@@ -30,31 +32,6 @@ pub struct Ranked {
     pub remove: u32,
 }
 
-// The point that stays, of the pair in a place of the list.
-pub fn keep_at(w: &[u32], v: usize, f: usize, i: usize) -> u32
-    requires { ⌜ i < 3 * f ⌝ ∗ ⌜ Room v f (now w) ⌝ }
-    ensures { λ r. ⌜ r ≡ (pairAt v f (now (w .entry)) i) .keep ⌝ }
-{
-    w[7 * f + 4 * v + i]
-}
-
-// The point that goes.
-pub fn remove_at(w: &[u32], v: usize, f: usize, i: usize) -> u32
-    requires { ⌜ i < 3 * f ⌝ ∗ ⌜ Room v f (now w) ⌝ }
-    ensures { λ r. ⌜ r ≡ (pairAt v f (now (w .entry)) i) .remove ⌝ }
-{
-    w[10 * f + 4 * v + i]
-}
-
-// Puts a pair into place n of the list: after the last one it is opened.
-pub fn push_pair(w: &mut [u32], v: usize, f: usize, n: usize, keep: u32, remove: u32)
-    requires { ⌜ n < 3 * f ⌝ ∗ ⌜ Room v f (now w) ⌝ }
-    ensures { λ _. ⌜ now (w .exit) ≡ set (set (now (w .entry)) (7 * f + 4 * v + n) keep) (10 * f + 4 * v + n) remove ⌝ }
-{
-    w[7 * f + 4 * v + n] = keep;
-    w[10 * f + 4 * v + n] = remove;
-}
-
 // Closes the pair in a place of the list: the last one takes its place. Says how many are left.
 pub fn close_pair(w: &mut [u32], v: usize, f: usize, n: usize, at: usize) -> usize
     requires { ⌜ at < n ⌝ ∗ ⌜ n ≤ 3 * f ⌝ ∗ ⌜ Room v f (now w) ⌝ }
@@ -63,7 +40,7 @@ pub fn close_pair(w: &mut [u32], v: usize, f: usize, n: usize, at: usize) -> usi
     let last = n - 1;
     let keep = keep_at(w, v, f, last);
     let remove = remove_at(w, v, f, last);
-    push_pair(w, v, f, at, keep, remove);
+    set_pair(w, v, f, at, keep, remove);
     last
 }
 
@@ -86,7 +63,7 @@ pub fn drop_pairs(w: &mut [u32], v: usize, f: usize, n: usize, keep: u32, remove
         let second = remove_at(w, v, f, i);
         i += 1;
         if is_apart(first, second, keep, remove) {
-            push_pair(w, v, f, kept, first, second);
+            set_pair(w, v, f, kept, first, second);
             kept += 1;
         }
     }
@@ -102,14 +79,14 @@ fn key_of(
     f: usize,
     keep: u32,
     remove: u32,
-    bound: f32,
+    bounds: Bounds,
 ) -> i64
     requires { ⌜ Room v f (now w) ⌝ ∗ ⌜ 3 * v ≤ length (now p) ⌝ ∗ ⌜ 10 * v ≤ length (now q) ⌝ ∗ ⌜ keep < v ⌝ ∗ ⌜ remove < v ⌝ }
-    ensures { λ r. ⌜ r ≡ keyAt v f (now (w .entry)) (now (p .entry)) (now (q .entry)) bound keep remove ⌝ }
+    ensures { λ r. ⌜ r ≡ keyAt v f (now (w .entry)) (now (p .entry)) (now (q .entry)) (bounds .size) keep remove ⌝ }
 {
     let stays = vertex_at(w, p, q, v, f, keep as usize);
     let goes = vertex_at(w, p, q, v, f, remove as usize);
-    bits::order::order(pair_cost(stays, goes, bound))
+    bits::order::order(pair_cost(stays, goes, bounds.size))
 }
 
 // Where a pair goes.
@@ -121,27 +98,35 @@ fn place_of(
     f: usize,
     keep: u32,
     remove: u32,
-    bound: f32,
+    bounds: Bounds,
 ) -> Point
     requires { ⌜ Room v f (now w) ⌝ ∗ ⌜ 3 * v ≤ length (now p) ⌝ ∗ ⌜ 10 * v ≤ length (now q) ⌝ ∗ ⌜ keep < v ⌝ ∗ ⌜ remove < v ⌝ }
-    ensures { λ r. ⌜ r ≡ placeAt v f (now (w .entry)) (now (p .entry)) (now (q .entry)) bound keep remove ⌝ }
+    ensures { λ r. ⌜ r ≡ placeAt v f (now (w .entry)) (now (p .entry)) (now (q .entry)) (bounds .size) keep remove ⌝ }
 {
     let stays = vertex_at(w, p, q, v, f, keep as usize);
     let goes = vertex_at(w, p, q, v, f, remove as usize);
-    pair_place(stays, goes, bound)
+    pair_place(stays, goes, bounds.size)
 }
 
 // The pair in a place of the list, with the key of its cost, which is worked out anew.
-fn ranked_at(w: &[u32], p: &[f32], q: &[f64], v: usize, f: usize, i: usize, bound: f32) -> Ranked
+fn ranked_at(
+    w: &[u32],
+    p: &[f32],
+    q: &[f64],
+    v: usize,
+    f: usize,
+    i: usize,
+    bounds: Bounds,
+) -> Ranked
     requires { ⌜ i < 3 * f ⌝ ∗ ⌜ Room v f (now w) ⌝ ∗ ⌜ (pairAt v f (now w) i .keep < v) × (pairAt v f (now w) i .remove < v) ⌝ }
     requires { ⌜ 3 * v ≤ length (now p) ⌝ ∗ ⌜ 10 * v ≤ length (now q) ⌝ }
-    ensures { λ r. ⌜ r ≡ rankedAt v f (now (w .entry)) (now (p .entry)) (now (q .entry)) bound i ⌝ }
+    ensures { λ r. ⌜ r ≡ rankedAt v f (now (w .entry)) (now (p .entry)) (now (q .entry)) (bounds .size) i ⌝ }
 {
     let keep = keep_at(w, v, f, i);
     let remove = remove_at(w, v, f, i);
     Ranked {
         at: i,
-        key: key_of(w, p, q, v, f, keep, remove, bound),
+        key: key_of(w, p, q, v, f, keep, remove, bounds),
         keep: keep,
         remove: remove,
     }
@@ -174,25 +159,28 @@ pub fn least_pair(
     v: usize,
     f: usize,
     n: usize,
-    bound: f32,
+    bounds: Bounds,
 ) -> Least
     requires { ⌜ 0 < n ⌝ ∗ ⌜ n ≤ 3 * f ⌝ ∗ ⌜ Room v f (now w) ⌝ ∗ ⌜ Named v f (now w) n ⌝ }
     requires { ⌜ 3 * v ≤ length (now p) ⌝ ∗ ⌜ 10 * v ≤ length (now q) ⌝ }
-    ensures { λ r. ⌜ ((limit : Limit) → LeastAt v f (now (w .entry)) (now (p .entry)) (now (q .entry)) n limit bound r) ⌝ }
+    ensures { λ r. ⌜ LeastAt v f (now (w .entry)) (now (p .entry)) (now (q .entry)) n (bounds .limit) (bounds .size) r ⌝ }
 {
-    let mut least = ranked_at(w, p, q, v, f, 0, bound);
+    let mut least = ranked_at(w, p, q, v, f, 0, bounds);
     let mut i = 1;
     while i < n {
-        let next = ranked_at(w, p, q, v, f, i, bound);
+        let next = ranked_at(w, p, q, v, f, i, bounds);
         i += 1;
         if comes_first(next, least) {
             least = next;
         }
     }
-    Least {
-        at: least.at,
+    let fold = Fold {
         keep: least.keep,
         remove: least.remove,
-        place: place_of(w, p, q, v, f, least.keep, least.remove, bound),
+        place: place_of(w, p, q, v, f, least.keep, least.remove, bounds),
+    };
+    Least {
+        at: least.at,
+        fold: fold,
     }
 }

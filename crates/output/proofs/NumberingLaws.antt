@@ -21,6 +21,7 @@ use Rattle.output.specs.declared.writing.NewNumber.{NewNumber}
 use Rattle.lists.specs.Frames.{overlaid}
 use Rattle.output.specs.Contracts.Numbering.{partsPut, Met, Known, Numbered}
 use Rattle.lists.proofs.OverlayLaws.{over-three, length-over}
+use Rattle.memory.specs.Layout.{marksFrom, stampsFrom}
 
 -- ---- the parts of points
 
@@ -87,13 +88,13 @@ module _ {v f : ℕ} {p old : List Float} {seen w : List ℕ} {points : List Flo
     -- ---- a new point
 
     -- its mark is its number plus 1, and no other mark changes
-    new-marks : mark v f w x ≡ 0 → 7 * f + 3 * v ≤ length w → (y : ℕ) → y < v →
-        mark v f (set w (7 * f + 2 * v + x) (met + 1)) y ≡ cond (has (noted seen x) y) (placeIn (noted seen x) y + 1) 0
+    new-marks : mark v f w x ≡ 0 → stampsFrom v f ≤ length w → (y : ℕ) → y < v →
+        mark v f (set w (marksFrom v f + x) (met + 1)) y ≡ cond (has (noted seen x) y) (placeIn (noted seen x) y + 1) 0
     new-marks unmarked long y y-low =
         by-test (eqb y x)
-        (λ e. rw (eqb-true y x e) (getD-set-same w (7 * f + 2 * v + x) (met + 1) 0 (omega arith)
+        (λ e. rw (eqb-true y x e) (getD-set-same w (marksFrom v f + x) (met + 1) 0 (omega arith)
         ∙ rw (noted-has seen x) (omega (arith, m .counted, place-new seen x (met-new unmarked)))))
-        (λ e. getD-set-other w (7 * f + 2 * v + x) (7 * f + 2 * v + y) (met + 1) 0 (λ same. eqb-false y x e (omega arith))
+        (λ e. getD-set-other w (marksFrom v f + x) (marksFrom v f + y) (met + 1) 0 (λ same. eqb-false y x e (omega arith))
         ∙ m .marks y y-low
         ∙ rw (has-noted seen x y, e, or-false)
         (by-test (has seen y) (λ there. rw (there, place-noted seen x y there)) (λ none. rw none)))
@@ -109,8 +110,8 @@ module _ {v f : ℕ} {p old : List Float} {seen w : List ℕ} {points : List Flo
         ∙ ap (λ (l : List Float). overlaid l old) (sym (ap (partsOf p) (new-at-end seen x (met-new unmarked)) ∙ parts-append p seen (x ∷ [])))
 
     -- it is the last of the points met
-    new-met : mark v f w x ≡ 0 → 7 * f + 3 * v ≤ length w →
-        Met v f p old (noted seen x) (set w (7 * f + 2 * v + x) (met + 1))
+    new-met : mark v f w x ≡ 0 → stampsFrom v f ≤ length w →
+        Met v f p old (noted seen x) (set w (marksFrom v f + x) (met + 1))
         (partsPut points met (pointAt p x)) (met + 1)
     new-met unmarked long = record {
       marks = new-marks unmarked long;
@@ -131,20 +132,20 @@ module _ {v f : ℕ} {p : List Float} {w : List ℕ} {points : List Float} {met 
   -- a point that has been met keeps its number
   pub numbered-old : (kept ≡ 0 → ⊥) → Numbered v f p x w points met w points (record { number = kept - 1; met = met })
   numbered-old marked = record {
-    but = but-refl (7 * f + 2 * v) (7 * f + 3 * v) w;
+    but = but-refl (marksFrom v f) (stampsFrom v f) w;
     met-then = λ old seen m. old-met m x x-low (λ e. marked (read ∙ e));
     number = λ old seen m. old-number m x x-low kept read marked;
   }
 
   -- a new point has the next number
-  pub numbered-new : {w' : List ℕ} {points' : List Float} → kept ≡ 0 → 7 * f + 3 * v ≤ length w →
-      w' ≡ set w (7 * f + 2 * v + x) (met + 1) → points' ≡ partsPut points met (pointAt p x) →
+  pub numbered-new : {w' : List ℕ} {points' : List Float} → kept ≡ 0 → stampsFrom v f ≤ length w →
+      w' ≡ set w (marksFrom v f + x) (met + 1) → points' ≡ partsPut points met (pointAt p x) →
       Numbered v f p x w points met w' points' (record { number = met; met = met + 1 })
   numbered-new none long marked put =
       let unmarked : mark v f w x ≡ 0 = sym read ∙ none in
       rw (marked, put)
       (record {
-        but = but-set (7 * f + 2 * v) (7 * f + 3 * v) w (7 * f + 2 * v + x) (met + 1) (omega arith) (omega arith);
+        but = but-set (marksFrom v f) (stampsFrom v f) w (marksFrom v f + x) (met + 1) (omega arith) (omega arith);
         met-then = λ old seen m. new-met m x x-low unmarked long;
         number = λ old seen m. new-number m x x-low unmarked;
       })

@@ -16,18 +16,19 @@ use Rattle.lists.specs.Lists.{those, below, every, some}
 use Rattle.walk.specs.Faces.{proper, faceAt}
 use Rattle.walk.specs.Output.{used, renumbered, numbersOf}
 use Rattle.lists.proofs.TestLaws.{by-test}
-use Rattle.lists.proofs.ListLaws.{length-those}
+use Rattle.lists.proofs.EveryLaws.{length-those}
 use Rattle.walk.proofs.PlaceLaws.{once-none}
 use Rattle.memory.specs.Memory.{live, lives, liveFaces, Room}
 use Rattle.lists.specs.Frames.{But}
 use Rattle.mesh.specs.Contracts.Chains.{Tidy}
-use Rattle.lists.proofs.BelowSums.{count-most}
+use Rattle.lists.proofs.BelowLaws.{count-below-most}
 use Rattle.lists.proofs.FrameLaws.{but-refl, but-then}
 use Rattle.memory.proofs.FrameLaws.{lives-but, face-but}
 use Rattle.memory.specs.Points.{partsOf}
 use Rattle.output.specs.declared.Counts.{Counts}
 use Rattle.output.specs.Contracts.Written.{Written}
-use Rattle.output.specs.Contracts.Numbering.{Known, Listed, FaceWritten}
+use Rattle.output.specs.Contracts.Numbering.{Known, FacesOut, FaceWritten}
+use Rattle.memory.specs.Layout.{marksFrom, stampsFrom}
 
 -- the live faces among the first k slots
 abbrev pub firstFaces : ℕ → List ℕ → ℕ → List Face
@@ -63,7 +64,7 @@ first-dead f w k e = first-next f w k ∙ rw e (append-nil (firstFaces f w k))
 -- at most one face to a slot
 length-first : (f : ℕ) (w : List ℕ) (k : ℕ) → length (firstFaces f w k) ≤ k
 length-first f w k =
-    omega (arith, length-map (those (lives f w) (below k)) (faceAt w), length-those (lives f w) (below k), count-most (lives f w) k)
+    omega (arith, length-map (those (lives f w) (below k)) (faceAt w), length-those (lives f w) (below k), count-below-most (lives f w) k)
 
 -- what holds after k slots
 pub record Turn (v f : ℕ) (p : List Float) (w₀ : List ℕ) (points₀ : List Float) (faces₀ : List ℕ)
@@ -71,9 +72,9 @@ pub record Turn (v f : ℕ) (p : List Float) (w₀ : List ℕ) (points₀ : List
   pub within : k ≤ f
   pub tidy : Tidy v f w₀
   pub enough : 3 * f ≤ length faces₀
-  pub but : But (7 * f + 2 * v) (7 * f + 3 * v) w₀ w
+  pub but : But (marksFrom v f) (stampsFrom v f) w₀ w
   pub same-faces : length faces ≡ length faces₀
-  pub listed : Listed v f p points₀ faces₀ (firstFaces f w₀ k) w points faces counts
+  pub listed : FacesOut v f p points₀ faces₀ (firstFaces f w₀ k) w points faces counts
 
 -- no slot yet
 pub turn-none : {v f : ℕ} {p : List Float} {w : List ℕ} {points : List Float} {faces : List ℕ} →
@@ -83,7 +84,7 @@ turn-none {v} {f} {p} {w} {points} {faces} t long enough = record {
   within = omega arith;
   tidy = t;
   enough = enough;
-  but = but-refl (7 * f + 2 * v) (7 * f + 3 * v) w;
+  but = but-refl (marksFrom v f) (stampsFrom v f) w;
   same-faces = refl;
   listed = record {
     met = record { marks = t .unmarked; out = refl; counted = refl; low = refl; once = once-none; long = long };
@@ -161,8 +162,8 @@ module _ {v f : ℕ} {p : List Float} {w₀ : List ℕ} {points₀ : List Float}
   pub turn-all : f ≤ k → Written v f w₀ p points₀ faces₀ w points faces counts
   unfolding liveFaces
   turn-all all =
-      let h : Listed v f p points₀ faces₀ (firstFaces f w₀ f) w points faces counts =
-      subst (λ (n : ℕ). Listed v f p points₀ faces₀ (firstFaces f w₀ n) w points faces counts) (le-antisymm (t .within) all) (t .listed) in
+      let h : FacesOut v f p points₀ faces₀ (firstFaces f w₀ f) w points faces counts =
+      subst (λ (n : ℕ). FacesOut v f p points₀ faces₀ (firstFaces f w₀ n) w points faces counts) (le-antisymm (t .within) all) (t .listed) in
       record {
         but = t .but;
         points-out = h .met .out;

@@ -19,7 +19,7 @@ use Rattle.lists.proofs.FrameLaws.{but-then}
 use Rattle.output.specs.declared.Counts.{Counts}
 use Rattle.output.specs.declared.writing.NewNumber.{NewNumber}
 use Rattle.lists.specs.Frames.{overlaid}
-use Rattle.output.specs.Contracts.Numbering.{threePut, Numbered, Listed, FaceWritten}
+use Rattle.output.specs.Contracts.Numbering.{threePut, Numbered, FacesOut, FaceWritten}
 use Rattle.lists.proofs.OverlayLaws.{over-three}
 
 -- ---- faces as numbers
@@ -69,8 +69,8 @@ module _ {v f : ℕ} {p : List Float} {face : Face} {w w₁ w₂ w₃ : List ℕ
     (third : Numbered v f p (face .c) w₂ points₂ (b .met) w₃ points₃ c) where
   -- the three points are noted one after another, and the face is put by their places
   more : (old : List Float) (before : List ℕ) (fs : List Face) → 3 * length fs + 3 ≤ length before →
-      Listed v f p old before fs w points faces counts →
-      Listed v f p old before (fs ++ (face ∷ [])) w₃ points₃ (threePut faces (counts .faces) (a .number) (b .number) (c .number))
+      FacesOut v f p old before fs w points faces counts →
+      FacesOut v f p old before (fs ++ (face ∷ [])) w₃ points₃ (threePut faces (counts .faces) (a .number) (b .number) (c .number))
       (record { points = c .met; faces = counts .faces + 1 })
   more old before fs fits h =
       let seen = used [] fs in

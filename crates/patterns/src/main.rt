@@ -1,8 +1,7 @@
 // Runs root, narrowing and order on stored bit patterns with known answers, and says how many came out right.
 // A record is 24 bytes: its kind, a verdict, six zeros, and two numbers of eight bytes, the lowest byte first.
 //   kind 1: an f32 and its root; kind 2: an f64 and the f32 nearest to it; kind 3: two f64, verdict 1 where the first comes at or before the second
-ghost use mathlib.Core.Path.{_≡_};
-ghost use Prim.Native.Nat.{_^_, _≤_, _<_};
+ghost use Prim.Native.Nat.{_≤_, _<_};
 use libc::STDIN_FILENO;
 use libc::STDOUT_FILENO;
 
@@ -14,29 +13,11 @@ struct Tally {
     wrong: u64,
 }
 
-// A byte as a wider number.
-fn wide(x: u8) -> u64
-    ensures { λ r. ⌜ r ≡ x ⌝ ∗ ⌜ r < 256 ⌝ }
-{
-    x as u64
-}
-
-// The number of four bytes.
-fn number(b: &[u8; 24], at: usize) -> u64
-    requires { ⌜ at ≤ 20 ⌝ }
-    ensures { λ r. ⌜ r < 2 ^ 32 ⌝ }
-{
-    wide(b[at])
-        + wide(b[at + 1]) * 0x100
-        + wide(b[at + 2]) * 0x1_0000
-        + wide(b[at + 3]) * 0x100_0000
-}
-
 // The number of eight bytes.
 fn long_number(b: &[u8; 24], at: usize) -> u64
     requires { ⌜ at ≤ 16 ⌝ }
 {
-    number(b, at) + number(b, at + 4) * 0x1_0000_0000
+    records::four_bytes(b, at) as u64 + records::four_bytes(b, at + 4) as u64 * 0x1_0000_0000
 }
 
 // Whether a record's answer is ours.

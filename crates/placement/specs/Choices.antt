@@ -22,6 +22,11 @@ abbrev pub fixed : Kind → Bool
 fixed Free = false
 fixed Border = true
 
+-- a limit only where there is one: what is given for it is not looked at otherwise
+abbrev pub limitOf : Bool → Float → Limit
+limitOf true limit = AtMost limit
+limitOf false limit = Unlimited
+
 -- a length is above the limit
 abbrev pub aboveLimit : Float → Limit → Bool
 aboveLimit length Unlimited = false

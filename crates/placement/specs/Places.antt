@@ -52,15 +52,15 @@ solved q = solvedBy (inverse (upperLeft q)) q
 -- ---- whether it may stand
 
 -- 2^-23 and 2.0
-abbrev pub least : Float
-least = ofBits binary32 0x3400_0000
+abbrev pub shortest : Float
+shortest = ofBits binary32 0x3400_0000
 
 abbrev pub two : Float
 two = ofBits binary32 0x4000_0000
 
 -- max(length, 2^-23), as Rust has it: of a NaN and a number the number
 abbrev pub longerOf : Float → Float
-longerOf length = cond (lt least length) length least
+longerOf length = cond (lt shortest length) length shortest
 
 -- at most the bound in size
 abbrev pub inSize : Float → Float → Bool

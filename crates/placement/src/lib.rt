@@ -5,7 +5,8 @@ pub mod pair;
 pub mod place;
 
 ghost use mathlib.Core.Path.{_≡_};
-ghost use Rattle.placement.specs.Choices.{kindNumber, kindOf, fixed, aboveLimit};
+ghost use Rattle.placement.specs.Choices.{kindNumber, kindOf, fixed, limitOf, aboveLimit};
+use geometry::Point;
 
 // Whether a point may move: it is free, or on the border and fixed.
 pub enum Kind {
@@ -17,6 +18,19 @@ pub enum Kind {
 pub enum Limit {
     Unlimited,
     AtMost(f32),
+}
+
+// What bounds the pairs of a walk: the limit on a pair's length, and the bound on the size of a coordinate.
+pub struct Bounds {
+    pub limit: Limit,
+    pub size: f32,
+}
+
+// A pair that may be folded, by the numbers of its points, and where keep goes.
+pub struct Fold {
+    pub keep: u32,
+    pub remove: u32,
+    pub place: Point,
 }
 
 // A kind's number, as memory holds it.
@@ -47,6 +61,17 @@ pub fn is_fixed(kind: Kind) -> bool
     match kind {
         Kind::Free => false,
         Kind::Border => true,
+    }
+}
+
+// A limit only where there is one.
+pub fn limit_of(limited: bool, limit: f32) -> Limit
+    ensures { λ r. ⌜ r ≡ limitOf limited limit ⌝ }
+{
+    if limited {
+        Limit::AtMost(limit)
+    } else {
+        Limit::Unlimited
     }
 }
 

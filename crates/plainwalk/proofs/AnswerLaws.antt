@@ -1,10 +1,10 @@
 -- A step's answer: at the end, of the least open pair, and of a pair that is closed.
 -- Assumes nothing.
-use Prim.Native.Nat.{ℕ, _+_, _*_, _≤_, _<_}
+use Prim.Native.Nat.{ℕ, _+_, _≤_, _<_}
 use native.Mathlib.Omega.{arith}
 use mathlib.Core.Path.{_≡_, refl, sym, ap, ap₂, subst, _∙_}
 use mathlib.Core.List.{List}
-use mathlib.Core.Bool.{Bool, true, false, cond}
+use mathlib.Core.Bool.{Bool, true, false}
 use lib.Ieee.{Float}
 use lib.Dec.{leb}
 use lib.ListN.{length}
@@ -24,10 +24,8 @@ use Rattle.walk.proofs.LeastLaws.{chosen-by-place}
 use Rattle.walk.proofs.SoundLaws.{isOpen, close-sound}
 use Rattle.memory.specs.Memory.{liveFaces}
 use Rattle.lists.specs.Frames.{But}
-use Rattle.mesh.specs.Contracts.Around.{Collected}
-use Rattle.lists.proofs.FrameLaws.{but-then, but-widen}
 use Rattle.mesh.proofs.TidyLaws.{tidy-but}
-use Rattle.mesh.proofs.AroundLaws.{live-faces-but, gathered-but}
+use Rattle.mesh.proofs.AroundLaws.{live-faces-but}
 use Rattle.memory.specs.Points.{meshOf}
 use Rattle.meaning.specs.Arithmetic.{rulesOf}
 use Rattle.openpairs.specs.declared.pairs.Least.{Least}
@@ -36,16 +34,14 @@ use Rattle.openpairs.specs.State.{openPairs, stateOf}
 use Rattle.openpairs.specs.Contracts.Changes.{LeastAt, Closed as ClosedAt}
 use Rattle.plainwalk.specs.declared.Step.the-variants.{Closed, Ended}
 use Rattle.plainwalk.specs.declared.Stepped.{Stepped}
-use Rattle.plainwalk.specs.Steps.{Holds, Found, Listed, AnswerDone, PairTried, StepDone}
+use Rattle.plainwalk.specs.Steps.{Holds, Found, AnswerDone, PairTried, StepDone}
 use Rattle.walk.proofs.StateLaws.{same-refl, sound-bag}
-use Rattle.plainwalk.proofs.MemoryLaws.{mesh-but, vertex-but, pair-same, state-but, open-at, open-points, open-few, open-fitting, within-refl, within-but, within-then}
+use Rattle.plainwalk.proofs.MemoryLaws.{vertex-but, pair-same, state-but, open-at, open-points, open-few, open-fitting, within-refl, within-but, within-then}
+use Rattle.memory.specs.Layout.{foldsFrom, nearFrom}
+use Rattle.lists.proofs.CondLaws.{cond-same}
+use Rattle.memory.proofs.MeshLaws.{mesh-but}
 
 -- ---- the end
-
--- with no open pair it makes no difference whether the target is met
-either-way : (b : Bool) → cond b ended ended ≡ ended
-either-way true = refl
-either-way false = refl
 
 module _ {v f : ℕ} {w : List ℕ} {p q : List Float} {n live : ℕ} (h : Holds v f w p q n live) (target : ℕ) (limit : Limit) (bound : Float) where
   -- where the answer is the end, nothing is done
@@ -62,13 +58,13 @@ module _ {v f : ℕ} {w : List ℕ} {p q : List Float} {n live : ℕ} (h : Holds
 
   pub none-open : n ≡ 0 → StepDone v f w p q n target limit bound w p q (record { step = Ended; «open» = n; live = live })
   unfolding answer chosen stateOf meshOf openPairs below
-  none-open e = ended-done (rw e (either-way (leb (length (liveFaces f w)) target)))
+  none-open e = ended-done (rw e (cond-same (leb (length (liveFaces f w)) target) ended))
 
   -- ---- the least open pair
 
   -- before the target the answer is that of the least open pair
   least-answer : target < live → (r : Least) → LeastAt v f w p q n limit bound r →
-      answer (rulesOf limit bound) target (stateOf v f w p q n) ≡ tried (rulesOf limit bound) (meshOf v f w p q) (pairOf (r .keep) (r .remove))
+      answer (rulesOf limit bound) target (stateOf v f w p q n) ≡ tried (rulesOf limit bound) (meshOf v f w p q) (pairOf (r .fold .keep) (r .fold .remove))
   unfolding answer stateOf meshOf openPairs
   least-answer above r least =
       rw (lt-leb (length (liveFaces f w)) target (omega arith))
@@ -86,40 +82,40 @@ module _ {v f : ℕ} {w : List ℕ} {p q : List Float} {n live : ℕ} (h : Holds
 
 module _ {v f : ℕ} {w : List ℕ} {p q : List Float} {n live : ℕ} {bound : Float} {r : Least} (h : Holds v f w p q n live) (found : Found v f w p q n bound r) where
   -- it is open, and of two points below v
-  pub found-open : isOpen (stateOf v f w p q n) (pairOf (r .keep) (r .remove))
+  pub found-open : isOpen (stateOf v f w p q n) (pairOf (r .fold .keep) (r .fold .remove))
   found-open = subst (isOpen (stateOf v f w p q n)) (found .same-pair) (open-at v f w p q n (r .at) (found .within))
 
-  pub found-points : (r .keep < v) × (r .remove < v)
-  found-points = open-points h (pairOf (r .keep) (r .remove)) found-open
+  pub found-points : (r .fold .keep < v) × (r .fold .remove < v)
+  found-points = open-points h (pairOf (r .fold .keep) (r .fold .remove)) found-open
 
   -- cells of near and far may change
-  pub found-but : {lo hi : ℕ} {w' : List ℕ} → But lo hi w w' → 13 * f + 4 * v ≤ lo → Found v f w' p q n bound r
+  pub found-but : {lo hi : ℕ} {w' : List ℕ} → But lo hi w w' → nearFrom v f ≤ lo → Found v f w' p q n bound r
   found-but {lo} {hi} {w'} but above = record {
     within = found .within;
     same-pair = pair-same v f n w w' (open-few h) (λ i l m. but .under i (omega arith)) (r .at) (found .within) ∙ found .same-pair;
     place =
         found .place
         ∙ sym (ap₂ (pairPlace bound)
-        (vertex-but v f p q but (omega arith) (r .keep) (found-points .0))
-        (vertex-but v f p q but (omega arith) (r .remove) (found-points .1)));
+        (vertex-but v f p q but (omega arith) (r .fold .keep) (found-points .0))
+        (vertex-but v f p q but (omega arith) (r .fold .remove) (found-points .1)));
   }
 
   -- it is closed: the state after that
   closed-state : {w' : List ℕ} {n' : ℕ} → ClosedAt v f w n (r .at) w' n' → (limit : Limit) →
-      SameState (stateOf v f w' p q n') (after (rulesOf limit bound) (stateOf v f w p q n) (closed (pairOf (r .keep) (r .remove))))
+      SameState (stateOf v f w' p q n') (after (rulesOf limit bound) (stateOf v f w p q n) (closed (pairOf (r .fold .keep) (r .fold .remove))))
   unfolding stateOf after
   closed-state {w'} {n'} done limit = record {
     same-mesh = mesh-but v f p q (done .but) (omega arith);
     same-open =
-        bag-taken-pair (pairOf (r .keep) (r .remove)) (openPairs v f w' n') (openPairs v f w n)
+        bag-taken-pair (pairOf (r .fold .keep) (r .fold .remove)) (openPairs v f w' n') (openPairs v f w n)
         (λ g. ap (λ (x : Pair). sum g (openPairs v f w' n') + g x) (sym (found .same-pair)) ∙ done .sums g);
   }
 
   pub closed-done : {w' : List ℕ} {n' : ℕ} → ClosedAt v f w n (r .at) w' n' → (limit : Limit) →
-      AnswerDone v f w p q n limit bound (closed (pairOf (r .keep) (r .remove))) w' p q
-      (record { step = Closed (pairOf (r .keep) (r .remove)); «open» = n'; live = live })
+      AnswerDone v f w p q n limit bound (closed (pairOf (r .fold .keep) (r .fold .remove))) w' p q
+      (record { step = Closed (pairOf (r .fold .keep) (r .fold .remove)); «open» = n'; live = live })
   closed-done {w'} {n'} done limit =
-      let x = pairOf (r .keep) (r .remove) in
+      let x = pairOf (r .fold .keep) (r .fold .remove) in
       let same : SameState (stateOf v f w' p q n') (after (rulesOf limit bound) (stateOf v f w p q n) (closed x)) = closed-state done limit in
       record {
         holds =
@@ -140,42 +136,24 @@ module _ {v f : ℕ} {w : List ℕ} {p q : List Float} {n live : ℕ} {bound : F
 module _ (v f : ℕ) (w : List ℕ) (p q : List Float) (n : ℕ) (r : Least) (limit : Limit) (bound : Float) where
   -- allowed, it is folded
   pub tried-folded : {w' : List ℕ} {p' q' : List Float} {s : Stepped} (ok : Bool) → ok ≡ true →
-      ok ≡ allowed (rulesOf limit bound) (meshOf v f w p q) (pairOf (r .keep) (r .remove)) →
-      AnswerDone v f w p q n limit bound (folded (pairOf (r .keep) (r .remove))) w' p' q' s → PairTried v f w p q n r limit bound w' p' q' s
+      ok ≡ allowed (rulesOf limit bound) (meshOf v f w p q) (pairOf (r .fold .keep) (r .fold .remove)) →
+      AnswerDone v f w p q n limit bound (folded (pairOf (r .fold .keep) (r .fold .remove))) w' p' q' s → PairTried v f w p q n r limit bound w' p' q' s
   unfolding tried
   tried-folded ok passes is done = rw (sym is ∙ passes) done
 
   -- not allowed, it is closed
   pub tried-closed : {w' : List ℕ} {p' q' : List Float} {s : Stepped} (ok : Bool) → ok ≡ false →
-      ok ≡ allowed (rulesOf limit bound) (meshOf v f w p q) (pairOf (r .keep) (r .remove)) →
-      AnswerDone v f w p q n limit bound (closed (pairOf (r .keep) (r .remove))) w' p' q' s → PairTried v f w p q n r limit bound w' p' q' s
+      ok ≡ allowed (rulesOf limit bound) (meshOf v f w p q) (pairOf (r .fold .keep) (r .fold .remove)) →
+      AnswerDone v f w p q n limit bound (closed (pairOf (r .fold .keep) (r .fold .remove))) w' p' q' s → PairTried v f w p q n r limit bound w' p' q' s
   unfolding tried
   tried-closed ok fails is done = rw (sym is ∙ fails) done
 
--- the faces around both points are listed, first those around keep
-module _ {v f : ℕ} {w w₁ w₂ : List ℕ} {keep remove near n far m : ℕ}
-    (one : Collected v f w keep near w₁ n) (two : Collected v f w₁ remove far w₂ m)
-    (past : 13 * f + 4 * v ≤ near) (apart : near + f ≤ far) (long : far + f ≤ length w) where
-  pub both-listed : Listed v f w₂ keep remove near n far m
-  both-listed = record {
-    around-keep =
-        gathered-but (two .but) (omega arith)
-        (λ i l. two .but .under (near + i) (omega (arith, one .gathered .few))) (one .gathered);
-    around-remove = two .gathered;
-    past-pairs = past;
-    one-after-other = apart;
-    within = omega (arith, one .but .same-length, two .but .same-length);
-  }
-
-  pub listed-but : But near (far + f) w w₂
-  listed-but = but-then (but-widen (omega arith) (omega arith) (one .but)) (but-widen (omega arith) (omega arith) (two .but))
-
 -- what is done after cells of near and far have changed is done to the state as it was
 pub tried-before : {v f : ℕ} {w w₁ : List ℕ} {p q : List Float} {n live lo hi : ℕ} (r : Least) {limit : Limit} {bound : Float}
-    {w' : List ℕ} {p' q' : List Float} {s : Stepped} → Holds v f w p q n live → But lo hi w w₁ → 13 * f + 4 * v ≤ lo → hi ≤ 24 * f + 5 * v →
+    {w' : List ℕ} {p' q' : List Float} {s : Stepped} → Holds v f w p q n live → But lo hi w w₁ → nearFrom v f ≤ lo → hi ≤ foldsFrom v f →
     PairTried v f w₁ p q n r limit bound w' p' q' s → PairTried v f w p q n r limit bound w' p' q' s
 tried-before {v} {f} {w} {w₁} {p} {q} {n} {live} {lo} {hi} r {limit} {bound} {w'} {p'} {q'} {s} h but above up done =
-    let x = pairOf (r .keep) (r .remove) in
+    let x = pairOf (r .fold .keep) (r .fold .remove) in
     let same-mesh = mesh-but v f p q but (omega arith) in
     record {
       holds = done .holds;

@@ -30,7 +30,10 @@ use Rattle.folding.specs.Contracts.Folds.{MeshFolded}
 use Rattle.plainwalk.specs.declared.Step.the-variants.{Folded}
 use Rattle.plainwalk.specs.Steps.{Holds, StepWithin, AnswerDone}
 use Rattle.walk.proofs.StateLaws.{sound-bag}
-use Rattle.plainwalk.proofs.MemoryLaws.{live-few, mesh-but, pairs-same, open-length, open-few, rest-more, within-but, within-then}
+use Rattle.plainwalk.proofs.MemoryLaws.{live-few, pairs-same, open-length, open-few, within-but, within-then}
+use Rattle.memory.proofs.MeshLaws.{mesh-but}
+use Rattle.lists.proofs.DropLaws.{rest-more}
+use Rattle.memory.specs.Layout.{costsTo, placesTo}
 
 module _ {v f : ℕ} {w : List ℕ} {p q : List Float} {n live : ℕ} {limit : Limit} {bound : Float} {keep remove : ℕ}
     {w₁ : List ℕ} {p' q' : List Float} {gone : ℕ}
@@ -93,8 +96,8 @@ module _ {v f : ℕ} {w : List ℕ} {p q : List Float} {n live : ℕ} {limit : L
             but = but-widen (omega arith) (omega arith) (fold .but);
             same-length-p = fold .same-length-p;
             same-length-q = fold .same-length-q;
-            rest-p = rest-more p' p (3 * v) (3 * v + 9 * f) (omega arith) (fold .rest-p);
-            rest-q = rest-more q' q (10 * v) (10 * v + 3 * f) (omega arith) (fold .rest-q);
+            rest-p = rest-more p' p (3 * v) (placesTo v f) (omega arith) (fold .rest-p);
+            rest-q = rest-more q' q (10 * v) (costsTo v f) (omega arith) (fold .rest-q);
           })
           (within-then (within-but p' q' (drop .but) (omega arith)) (within-but p' q' (add .but) (omega arith)))
 

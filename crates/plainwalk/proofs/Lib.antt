@@ -1,7 +1,7 @@
 -- Laws of the walk in memory, leaves first.
 pub mod MemoryLaws
 pub mod NoteLaws
-pub mod GoingLaws
+pub mod LentLaws
 pub mod AnswerLaws
 pub mod FoldedLaws
 pub mod WalkLaws

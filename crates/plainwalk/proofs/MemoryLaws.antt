@@ -1,19 +1,19 @@
 -- The state in memory: what of the memory it hangs on, and what is true of it.
 -- Assumes nothing.
-use Prim.Native.Nat.{ℕ, _+_, _*_, _-_, _≤_, _<_}
+use Prim.Native.Nat.{ℕ, _+_, _*_, _≤_, _<_}
 use native.Mathlib.Omega.{arith}
 use mathlib.Core.Path.{_≡_, refl, sym, ap, _∙_}
 use mathlib.Core.List.{List, map}
 use mathlib.Core.Bool.{Bool, true, cond}
 use lib.Ieee.{Float}
-use lib.ListN.{length, getD, drop}
-use lib.Seq.{drop-drop}
+use lib.ListN.{length, getD}
 use borrow.Author.Tests.{ltb-true}
 use Rattle.walk.specs.declared.Pair.{Pair}
 use Rattle.lists.specs.Lists.{every, below}
 use Rattle.walk.specs.Faces.{proper, faceAt}
 use Rattle.walk.specs.Pairs.{samePair}
-use Rattle.lists.proofs.SumLaws.{some-count, some-from, sum-length}
+use Rattle.lists.proofs.EveryLaws.{some-count, some-from, every-counted}
+use Rattle.lists.proofs.SumLaws.{sum-length}
 use Rattle.walk.proofs.SamePairs.{pair-path, same-self}
 use Rattle.walk.proofs.SoundLaws.{isOpen, open-below}
 use Rattle.walk.proofs.StepLaws.{open-bound}
@@ -22,25 +22,24 @@ use Rattle.walk.proofs.BagWalk.{sound-fitting}
 use Rattle.memory.specs.Memory.{lives, liveFaces}
 use Rattle.lists.specs.Frames.{But}
 use Rattle.mesh.specs.Contracts.Chains.{Tidy}
-use Rattle.lists.proofs.CondLaws.{by-outcome}
-use Rattle.lists.proofs.BelowSums.{sum-none, count-most, every-counted}
-use Rattle.lists.proofs.BelowLaws.{map-same}
+use Rattle.lists.proofs.TestLaws.{by-outcome}
+use Rattle.lists.proofs.BelowLaws.{sum-none, count-below-most, map-same-below, length-each, getD-each}
 use Rattle.lists.proofs.FrameLaws.{but-refl, but-then, but-widen}
 use Rattle.mesh.proofs.TidyLaws.{tidy-but}
 use Rattle.mesh.proofs.AroundLaws.{live-faces-but, live-sums}
-use Rattle.memory.specs.Points.{vertexAt, meshOf}
-use Rattle.lists.proofs.EachLaws.{length-each, getD-each}
-use Rattle.memory.proofs.MeshLaws.{mesh-length, mesh-same}
+use Rattle.memory.specs.Points.{vertexAt}
+use Rattle.memory.proofs.MeshLaws.{mesh-length, mesh-but}
 use Rattle.memory.specs.Entries.{pairAt}
 use Rattle.openpairs.specs.State.{openPairs, stateOf}
 use Rattle.openpairs.specs.Contracts.Changes.{Named}
 use Rattle.plainwalk.specs.Steps.{Holds, WithinTo}
+use Rattle.memory.specs.Layout.{keepsFrom, kindsFrom, marksFrom, nearFrom, removesFrom}
 
 -- ---- the live faces
 
 -- there are at most f
 pub live-few : (f : ℕ) (w : List ℕ) → length (liveFaces f w) ≤ f
-live-few f w = omega (arith, sum-length (liveFaces f w), live-sums f w (λ x. 1), count-most (lives f w) f)
+live-few f w = omega (arith, sum-length (liveFaces f w), live-sums f w (λ x. 1), count-below-most (lives f w) f)
 
 -- each has three distinct points below v
 pub live-proper : {v f : ℕ} {w : List ℕ} → Tidy v f w → every (proper v) (liveFaces f w) ≡ true
@@ -52,28 +51,23 @@ live-proper {v} {f} {w} tidy =
 
 -- ---- what the state hangs on
 
--- the mesh: on the cells below the marks
-pub mesh-but : (v f : ℕ) {lo hi : ℕ} {w w' : List ℕ} (p q : List Float) → But lo hi w w' → 7 * f + 2 * v ≤ lo → meshOf v f w' p q ≡ meshOf v f w p q
-mesh-but v f {lo} {hi} {w} {w'} p q but above =
-    mesh-same v f w w' p q (λ x l. but .under (7 * f + v + x) (omega arith)) (live-faces-but f but (omega arith))
-
 -- what a point carries: on its kind
-pub vertex-but : (v f : ℕ) {lo hi : ℕ} {w w' : List ℕ} (p q : List Float) → But lo hi w w' → 7 * f + 2 * v ≤ lo → (x : ℕ) → x < v →
+pub vertex-but : (v f : ℕ) {lo hi : ℕ} {w w' : List ℕ} (p q : List Float) → But lo hi w w' → marksFrom v f ≤ lo → (x : ℕ) → x < v →
     vertexAt v f w' p q x ≡ vertexAt v f w p q x
-vertex-but v f {lo} {hi} {w} {w'} p q but above x l = rw (but .under (7 * f + v + x) (omega arith))
+vertex-but v f {lo} {hi} {w} {w'} p q but above x l = rw (but .under (kindsFrom v f + x) (omega arith))
 
 -- the open pairs: on their own cells
 module _ (v f n : ℕ) (w w' : List ℕ) (few : n ≤ 3 * f)
-    (same : (i : ℕ) → 7 * f + 4 * v ≤ i → i < 13 * f + 4 * v → getD w' i 0 ≡ getD w i 0) where
+    (same : (i : ℕ) → keepsFrom v f ≤ i → i < nearFrom v f → getD w' i 0 ≡ getD w i 0) where
   pub pair-same : (i : ℕ) → i < n → pairAt v f w' i ≡ pairAt v f w i
-  pair-same i l = pair-path (same (7 * f + 4 * v + i) (omega arith) (omega arith)) (same (10 * f + 4 * v + i) (omega arith) (omega arith))
+  pair-same i l = pair-path (same (keepsFrom v f + i) (omega arith) (omega arith)) (same (removesFrom v f + i) (omega arith) (omega arith))
 
   pub pairs-same : openPairs v f w' n ≡ openPairs v f w n
   unfolding openPairs
-  pairs-same = map-same (pairAt v f w') (pairAt v f w) n pair-same
+  pairs-same = map-same-below (pairAt v f w') (pairAt v f w) n pair-same
 
 -- the whole state: on the cells below those of near and far
-pub state-but : (v f n : ℕ) {lo hi : ℕ} {w w' : List ℕ} (p q : List Float) → But lo hi w w' → 13 * f + 4 * v ≤ lo → n ≤ 3 * f →
+pub state-but : (v f n : ℕ) {lo hi : ℕ} {w w' : List ℕ} (p q : List Float) → But lo hi w w' → nearFrom v f ≤ lo → n ≤ 3 * f →
     stateOf v f w' p q n ≡ stateOf v f w p q n
 unfolding stateOf
 state-but v f n {lo} {hi} {w} {w'} p q but above few =
@@ -115,7 +109,7 @@ module _ {v f : ℕ} {w : List ℕ} {p q : List Float} {n live : ℕ} (h : Holds
   open-fitting = sound-fitting (h .sound) (omega (arith, mesh-length v f w p q, h .tidy .room))
 
   -- cells of near and far may change
-  pub holds-but : {lo hi : ℕ} {w' : List ℕ} → But lo hi w w' → 13 * f + 4 * v ≤ lo → Holds v f w' p q n live
+  pub holds-but : {lo hi : ℕ} {w' : List ℕ} → But lo hi w w' → nearFrom v f ≤ lo → Holds v f w' p q n live
   holds-but but above = record {
     tidy = tidy-but (omega arith) but (h .tidy);
     points-long = h .points-long;
@@ -125,16 +119,6 @@ module _ {v f : ℕ} {w : List ℕ} {p q : List Float} {n live : ℕ} (h : Holds
   }
 
 -- ---- no more than the walk's own cells
-
--- two memories that agree from m on agree further on
-pub rest-more : {A : Type 0} (p' p : List A) (m n : ℕ) → m ≤ n → drop m p' ≡ drop m p → drop n p' ≡ drop n p
-rest-more p' p m n past same =
-    let there : m + (n - m) ≡ n = omega arith in
-    ap (λ k. drop k p') (sym there)
-    ∙ sym (drop-drop (n - m) m p')
-    ∙ ap (drop (n - m)) same
-    ∙ drop-drop (n - m) m p
-    ∙ ap (λ k. drop k p) there
 
 pub within-refl : (past v f : ℕ) (w : List ℕ) (p q : List Float) → WithinTo past v f w p q w p q
 within-refl past v f w p q = record { but = but-refl _ _ w; same-length-p = refl; same-length-q = refl; rest-p = refl; rest-q = refl }

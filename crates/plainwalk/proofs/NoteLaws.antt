@@ -13,37 +13,37 @@ use Rattle.walk.specs.Pairs.{pairOf}
 use Rattle.walk.proofs.SamePairs.{pair-path}
 use Rattle.memory.specs.Memory.{Room}
 use Rattle.lists.specs.Frames.{But}
-use Rattle.lists.proofs.BelowLaws.{map-same}
+use Rattle.lists.proofs.BelowLaws.{map-same-below, length-each}
 use Rattle.lists.proofs.FrameLaws.{but-set, but-then}
-use Rattle.lists.proofs.EachLaws.{length-each}
 use Rattle.memory.specs.Entries.{foldsIn, withFold}
+use Rattle.memory.specs.Layout.{foldsFrom, workTo}
 
 -- only the cells of folds change
-pub noted-but : (v f n keep remove : ℕ) (w : List ℕ) → n < f → But (24 * f + 5 * v) (26 * f + 5 * v) w (withFold v f n keep remove w)
+pub noted-but : (v f n keep remove : ℕ) (w : List ℕ) → n < f → But (foldsFrom v f) (workTo v f) w (withFold v f n keep remove w)
 noted-but v f n keep remove w few =
-    but-then (but-set (24 * f + 5 * v) (26 * f + 5 * v) w (24 * f + 5 * v + 2 * n) keep (omega arith) (omega arith))
-    (but-set (24 * f + 5 * v) (26 * f + 5 * v) _ (24 * f + 5 * v + 2 * n + 1) remove (omega arith) (omega arith))
+    but-then (but-set (foldsFrom v f) (workTo v f) w (foldsFrom v f + 2 * n) keep (omega arith) (omega arith))
+    (but-set (foldsFrom v f) (workTo v f) _ (foldsFrom v f + 2 * n + 1) remove (omega arith) (omega arith))
 
 -- they are as many as are asked for
 pub folds-length : (v f : ℕ) (w : List ℕ) (n : ℕ) → length (foldsIn v f w n) ≡ n
 unfolding foldsIn
-folds-length v f w n = length-each (λ i. pairOf (getD w (24 * f + 5 * v + 2 * i) 0) (getD w (24 * f + 5 * v + 2 * i + 1) 0)) n
+folds-length v f w n = length-each (λ i. pairOf (getD w (foldsFrom v f + 2 * i) 0) (getD w (foldsFrom v f + 2 * i + 1) 0)) n
 
 -- the folds hang on their own cells
-pub folds-same : (v f : ℕ) (w w' : List ℕ) (n : ℕ) → ((i : ℕ) → 24 * f + 5 * v ≤ i → i < 24 * f + 5 * v + 2 * n → getD w' i 0 ≡ getD w i 0) → foldsIn v f w' n ≡ foldsIn v f w n
+pub folds-same : (v f : ℕ) (w w' : List ℕ) (n : ℕ) → ((i : ℕ) → foldsFrom v f ≤ i → i < foldsFrom v f + 2 * n → getD w' i 0 ≡ getD w i 0) → foldsIn v f w' n ≡ foldsIn v f w n
 unfolding foldsIn
 folds-same v f w w' n same =
-    map-same _ _ n
-    (λ i l. pair-path (same (24 * f + 5 * v + 2 * i) (omega arith) (omega arith)) (same (24 * f + 5 * v + 2 * i + 1) (omega arith) (omega arith)))
+    map-same-below _ _ n
+    (λ i l. pair-path (same (foldsFrom v f + 2 * i) (omega arith) (omega arith)) (same (foldsFrom v f + 2 * i + 1) (omega arith) (omega arith)))
 
 -- one more
 pub folds-more : {v f : ℕ} (w : List ℕ) (n keep remove : ℕ) → n < f → Room v f w →
     foldsIn v f (withFold v f n keep remove w) (n + 1) ≡ foldsIn v f w n ++ (pairOf keep remove ∷ [])
 unfolding foldsIn below
 folds-more {v} {f} w n keep remove few room =
-    let at = 24 * f + 5 * v + 2 * n in
+    let at = foldsFrom v f + 2 * n in
     let w' = withFold v f n keep remove w in
-    let fold : List ℕ → ℕ → Pair = λ u i. pairOf (getD u (24 * f + 5 * v + 2 * i) 0) (getD u (24 * f + 5 * v + 2 * i + 1) 0) in
+    let fold : List ℕ → ℕ → Pair = λ u i. pairOf (getD u (foldsFrom v f + 2 * i) 0) (getD u (foldsFrom v f + 2 * i + 1) 0) in
     let first : getD w' at 0 ≡ keep = getD-set-other (set w at keep) (at + 1) at remove 0 (omega arith) ∙ getD-set-same w at keep 0 (omega (arith, room .long)) in
     let second : getD w' (at + 1) 0 ≡ remove = getD-set-same (set w at keep) (at + 1) remove 0 (omega (arith, room .long, length-set w at keep)) in
     rw (add-one n)

@@ -1,6 +1,6 @@
--- The walk in memory: what is true at each turn, and that the end of it is the plain walk's.
+-- The plain walk in memory: how it holds a state, and that from the start it is the whole walk.
 -- Assumes nothing.
-use Prim.Native.Nat.{ℕ, _*_, _^_, _≤_}
+use Prim.Native.Nat.{ℕ, _*_, _≤_}
 use native.Mathlib.Nat.{zero-add}
 use native.Mathlib.Omega.{arith}
 use mathlib.Core.Path.{_≡_, refl, sym, ap, _∙_}
@@ -18,7 +18,6 @@ use Rattle.mesh.proofs.TidyLaws.{tidy-but}
 use Rattle.mesh.proofs.AroundLaws.{live-faces-but}
 use Rattle.memory.specs.Points.{meshOf}
 use Rattle.meaning.specs.Arithmetic.{rulesOf}
-use Rattle.memory.proofs.MeshLaws.{mesh-length}
 use Rattle.openpairs.specs.State.{openPairs, stateOf}
 use Rattle.openpairs.specs.Contracts.Changes.{Added}
 use Rattle.plainwalk.specs.declared.Stepped.{Stepped}
@@ -26,9 +25,9 @@ use Rattle.plainwalk.specs.declared.Walked.{Walked}
 use Rattle.plainwalk.specs.Steps.{Holds, StepDone}
 use Rattle.plainwalk.specs.Whole.{startIn, WalkedFrom, WalkDone}
 use Rattle.walk.proofs.StateLaws.{sound-bag}
-use Rattle.walk.proofs.RunLaws.{start-bag}
-use Rattle.plainwalk.proofs.GoingLaws.{Engine, Step}
-use Rattle.plainwalk.proofs.MemoryLaws.{live-proper, mesh-but, state-but, open-few, holds-but, within-but, within-then}
+use Rattle.plainwalk.proofs.LentLaws.{lent, Holding, Taken, walked-whole}
+use Rattle.plainwalk.proofs.MemoryLaws.{live-proper, state-but, open-few, holds-but, within-but}
+use Rattle.memory.proofs.MeshLaws.{mesh-length, mesh-but}
 
 -- ---- the start
 
@@ -38,11 +37,6 @@ unfolding meshOf
 start-sound {v} {f} {w} limit bound p q tidy =
     started-sound (rulesOf limit bound) (meshOf v f w p q) (rw (mesh-length v f w p q) (live-proper tidy))
 
--- its points are few enough to be numbered
-state-points : (v f : ℕ) (w : List ℕ) (p q : List Float) (n : ℕ) → Tidy v f w → length (stateOf v f w p q n .mesh .points) ≤ 2 ^ 32
-unfolding stateOf
-state-points v f w p q n tidy = omega (arith, mesh-length v f w p q, tidy .room)
-
 -- ---- the plain walk as a walk
 
 pub plain-mesh : (v f : ℕ) (w : List ℕ) (p q : List Float) (n : ℕ) → stateOf v f w p q n .mesh ≡ meshOf v f w p q
@@ -50,20 +44,21 @@ unfolding stateOf
 plain-mesh v f w p q n = refl
 
 -- its state is read off the list of open pairs
-abbrev pub plain : (v f : ℕ) → Engine v f
+abbrev pub plain : (v f : ℕ) → Holding v f
 plain v f = record {
-  state = stateOf v f;
-  Held = λ w p q n live. Holds v f w p q n live;
-  same-mesh = plain-mesh v f;
-  tidy = λ w p q n live h. h .tidy;
-  sound = λ w p q n live h. h .sound;
-  counted = λ w p q n live h. h .counted;
-  still-held = λ w w' p q n live but h. holds-but h but (omega arith);
-  same-state = λ w w' p q n live but h. state-but v f n p q but (omega arith) (open-few h);
+  state = λ m. stateOf v f (m .u32s) (m .f32s) (m .f64s) (m .pairs);
+  Held = λ m. Holds v f (m .u32s) (m .f32s) (m .f64s) (m .pairs) (m .live);
+  same-mesh = λ m. plain-mesh v f (m .u32s) (m .f32s) (m .f64s) (m .pairs);
+  tidy = λ m held. held .tidy;
+  sound = λ m held. held .sound;
+  counted = λ m held. held .counted;
+  still-held = λ m w but held. holds-but held but (omega arith);
+  still-state = λ m w but held. state-but v f (m .pairs) (m .f32s) (m .f64s) but (omega arith) (open-few held);
 }
 
-pub plain-step : {v f : ℕ} {w : List ℕ} {p q : List Float} {n target : ℕ} {limit : Limit} {bound : Float} {w' : List ℕ} {p' q' : List Float} {r : Stepped} →
-    StepDone v f w p q n target limit bound w' p' q' r → Step (plain v f) target limit bound w p q n w' p' q' r
+-- its step is taken as the plain walk's
+pub plain-step : {v f : ℕ} {w : List ℕ} {p q : List Float} {n live target : ℕ} {limit : Limit} {bound : Float} {w' : List ℕ} {p' q' : List Float} {r : Stepped} →
+    StepDone v f w p q n target limit bound w' p' q' r → Taken (plain v f) target limit bound (lent w p q n live) (lent w' p' q' (r .«open») (r .live)) (r .step)
 plain-step done = record { holds = done .holds; within = done .within; same-answer = done .same-answer; same-state = done .same-state }
 
 -- ---- from the start
@@ -91,14 +86,4 @@ module _ {v f : ℕ} {w w₁ : List ℕ} (p q : List Float) {n : ℕ} (limit : L
   -- and so the walk from there is the whole walk
   pub walk-done : {target : ℕ} {w' : List ℕ} {p' q' : List Float} {r : Walked} →
       WalkedFrom v f (stateOf v f w₁ p q n) w₁ p q target limit bound w' p' q' r → WalkDone v f w p q target limit bound w' p' q' r
-  walk-done {target} {w'} {p'} {q'} {r} done =
-      let rules = rulesOf limit bound in
-      let same = start-bag rules target f (start-holds .sound) (state-points v f w₁ p q n (start-holds .tidy)) start-state in
-      record {
-        tidy = done .tidy;
-        within = within-then (within-but p q (add .but) (omega arith)) (done .within);
-        same-mesh = done .same-mesh ∙ same .0;
-        same-folds = done .same-folds ∙ ap length (same .1);
-        same-list = done .same-list ∙ same .1;
-        counted = done .counted;
-      }
+  walk-done = walked-whole (plain v f) (lent w₁ p q n f) start-holds start-state (within-but p q (add .but) (omega arith))

@@ -6,7 +6,8 @@ use lib.ListN.{length}
 use lib.Ieee.{Float}
 use Rattle.placement.specs.declared.Limit.{Limit}
 use Rattle.placement.specs.declared.pair.Vertex.{Vertex}
-use Rattle.walk.specs.Walk.{State, walk, foldList, budget, started}
+use Rattle.walk.specs.Machines.{walk, foldList}
+use Rattle.walk.specs.Walk.{State, budget, started, plainMachine}
 use Rattle.memory.specs.Points.{meshOf}
 use Rattle.meaning.specs.Arithmetic.{rulesOf}
 use Rattle.plainwalk.specs.Steps.{Within}
@@ -24,9 +25,9 @@ startIn v f w p q limit bound = started (rulesOf limit bound) (meshOf v f w p q)
 pub record WalkedFrom (v f : ℕ) (s : State Vertex) (w : List ℕ) (p q : List Float) (target : ℕ) (limit : Limit) (bound : Float) (w' : List ℕ) (p' q' : List Float) (r : Walked) : Type 0 where
   pub tidy : Tidy v f w'
   pub within : Within v f w p q w' p' q'
-  pub same-mesh : meshOf v f w' p' q' ≡ (walk (rulesOf limit bound) target (budget f s) s) .mesh
-  pub same-folds : r .folds ≡ length (foldList (rulesOf limit bound) target (budget f s) s)
-  pub same-list : foldsIn v f w' (r .folds) ≡ foldList (rulesOf limit bound) target (budget f s) s
+  pub same-mesh : meshOf v f w' p' q' ≡ walk (plainMachine (rulesOf limit bound) target) (budget f s) s .mesh
+  pub same-folds : r .folds ≡ length (foldList (plainMachine (rulesOf limit bound) target) (budget f s) s)
+  pub same-list : foldsIn v f w' (r .folds) ≡ foldList (plainMachine (rulesOf limit bound) target) (budget f s) s
   pub counted : r .live ≡ length (liveFaces f w')
 
 -- the whole walk, from the start

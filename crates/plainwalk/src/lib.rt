@@ -4,14 +4,15 @@ ghost use Prim.Native.Nat.{_+_, _*_, _≤_, _<_};
 ghost use lib.ListN.{length};
 ghost use Rattle.walk.specs.Pairs.{pairOf};
 ghost use Rattle.walk.specs.Walk.{folded};
-ghost use Rattle.memory.specs.Memory.{Room, liveFaces};
+ghost use Rattle.memory.specs.Memory.{liveFaces};
 ghost use Rattle.mesh.specs.Contracts.Chains.{Tidy};
 ghost use Rattle.openpairs.specs.State.{stateOf};
-ghost use Rattle.plainwalk.specs.Steps.{Holds, Found, Listed, AnswerDone, PairTried, StepDone};
-ghost use Rattle.memory.specs.Entries.{withFold};
+ghost use Rattle.ring.specs.Contracts.Rings.{Ringed};
+ghost use Rattle.plainwalk.specs.Steps.{Holds, Found, AnswerDone, PairTried, StepDone};
 ghost use Rattle.plainwalk.specs.Whole.{WalkedFrom, WalkDone};
 use openpairs::Least;
-use placement::Limit;
+use placement::Bounds;
+use ring::Ring;
 use walk::Pair;
 
 // What a step did: it folded a pair, closed one, or found the walk at its end.
@@ -44,24 +45,20 @@ fn fold_pair(
     open: usize,
     live: usize,
     least: Least,
-    near: usize,
-    n: usize,
-    far: usize,
-    m: usize,
-    limit: Limit,
-    bound: f32,
+    ring: Ring,
+    bounds: Bounds,
 ) -> Stepped
     requires { ⌜ Holds v f (now w) (now p) (now q) «open» live ⌝
-        ∗ ⌜ Found v f (now w) (now p) (now q) «open» bound least ⌝
-        ∗ ⌜ Listed v f (now w) (least .keep) (least .remove) near n far m ⌝ }
-    ensures { λ r. ⌜ AnswerDone v f (now (w .entry)) (now (p .entry)) (now (q .entry)) «open» limit bound (folded (pairOf (least .keep) (least .remove))) (now (w .exit)) (now (p .exit)) (now (q .exit)) r ⌝ }
+        ∗ ⌜ Found v f (now w) (now p) (now q) «open» (bounds .size) least ⌝
+        ∗ ⌜ Ringed v f (now w) (least .fold .keep) (least .fold .remove) ring ⌝ }
+    ensures { λ r. ⌜ AnswerDone v f (now (w .entry)) (now (p .entry)) (now (q .entry)) «open» (bounds .limit) (bounds .size) (folded (pairOf (least .fold .keep) (least .fold .remove))) (now (w .exit)) (now (p .exit)) (now (q .exit)) r ⌝ }
 {
-    let keep = least.keep;
-    let remove = least.remove;
-    let place = least.place;
-    let gone = folding::fold_mesh(w, p, q, v, f, keep, remove, place, near, n, far, m);
+    let fold = least.fold;
+    let keep = fold.keep;
+    let remove = fold.remove;
+    let gone = folding::fold_mesh(w, p, q, v, f, fold, ring);
     let kept = openpairs::drop_pairs(w, v, f, open, keep, remove);
-    let opened = openpairs::open_neighbours(w, p, q, v, f, kept, keep, limit, bound);
+    let opened = openpairs::open_neighbours(w, p, q, v, f, kept, keep, bounds);
     let left = live - gone;
     Stepped {
         step: Step::Folded(Pair { keep, remove }),
@@ -80,54 +77,27 @@ fn fold_or_close(
     open: usize,
     live: usize,
     least: Least,
-    near: usize,
-    n: usize,
-    far: usize,
-    m: usize,
-    limit: Limit,
-    bound: f32,
+    ring: Ring,
+    bounds: Bounds,
 ) -> Stepped
     requires { ⌜ Holds v f (now w) (now p) (now q) «open» live ⌝
-        ∗ ⌜ Found v f (now w) (now p) (now q) «open» bound least ⌝
-        ∗ ⌜ Listed v f (now w) (least .keep) (least .remove) near n far m ⌝ }
-    ensures { λ r. ⌜ PairTried v f (now (w .entry)) (now (p .entry)) (now (q .entry)) «open» least limit bound (now (w .exit)) (now (p .exit)) (now (q .exit)) r ⌝ }
+        ∗ ⌜ Found v f (now w) (now p) (now q) «open» (bounds .size) least ⌝
+        ∗ ⌜ Ringed v f (now w) (least .fold .keep) (least .fold .remove) ring ⌝ }
+    ensures { λ r. ⌜ PairTried v f (now (w .entry)) (now (p .entry)) (now (q .entry)) «open» least (bounds .limit) (bounds .size) (now (w .exit)) (now (p .exit)) (now (q .exit)) r ⌝ }
 {
-    let keep = least.keep;
-    let remove = least.remove;
-    let place = least.place;
-    if foldtest::is_allowed(w, p, v, f, keep, remove, place, near, n, far, m) {
-        return fold_pair(
-            w,
-            p,
-            q,
-            v,
-            f,
-            open,
-            live,
-            least,
-            near,
-            n,
-            far,
-            m,
-            limit,
-            bound,
-        );
+    let fold = least.fold;
+    if foldtest::is_allowed(w, p, v, f, fold, ring) {
+        return fold_pair(w, p, q, v, f, open, live, least, ring, bounds);
     }
     let at = least.at;
     let still_open = openpairs::close_pair(w, v, f, open, at);
+    let keep = fold.keep;
+    let remove = fold.remove;
     Stepped {
         step: Step::Closed(Pair { keep, remove }),
         open: still_open,
         live,
     }
-}
-
-// Where the faces around a pair's two points are listed: after the open pairs, first those around keep.
-fn near_from(v: usize, f: usize) -> usize
-    requires { ⌜ (v ≤ 65536) × (f ≤ 131072) ⌝ }
-    ensures { λ r. ⌜ r ≡ 13 * f + 4 * v ⌝ }
-{
-    13 * f + 4 * v
 }
 
 // Tries the pair that was found, with the faces around its two points listed first.
@@ -140,34 +110,14 @@ fn try_pair(
     open: usize,
     live: usize,
     least: Least,
-    limit: Limit,
-    bound: f32,
+    bounds: Bounds,
 ) -> Stepped
-    requires { ⌜ Holds v f (now w) (now p) (now q) «open» live ⌝ ∗ ⌜ Found v f (now w) (now p) (now q) «open» bound least ⌝ }
-    ensures { λ r. ⌜ PairTried v f (now (w .entry)) (now (p .entry)) (now (q .entry)) «open» least limit bound (now (w .exit)) (now (p .exit)) (now (q .exit)) r ⌝ }
+    requires { ⌜ Holds v f (now w) (now p) (now q) «open» live ⌝ ∗ ⌜ Found v f (now w) (now p) (now q) «open» (bounds .size) least ⌝ }
+    ensures { λ r. ⌜ PairTried v f (now (w .entry)) (now (p .entry)) (now (q .entry)) «open» least (bounds .limit) (bounds .size) (now (w .exit)) (now (p .exit)) (now (q .exit)) r ⌝ }
 {
-    let near = near_from(v, f);
-    let far = near + f;
-    let keep = least.keep as usize;
-    let remove = least.remove as usize;
-    let n = mesh::collect(w, v, f, keep, near);
-    let m = mesh::collect(w, v, f, remove, far);
-    fold_or_close(
-        w,
-        p,
-        q,
-        v,
-        f,
-        open,
-        live,
-        least,
-        near,
-        n,
-        far,
-        m,
-        limit,
-        bound,
-    )
+    let fold = least.fold;
+    let ring = ring::gather(w, v, f, fold.keep, fold.remove);
+    fold_or_close(w, p, q, v, f, open, live, least, ring, bounds)
 }
 
 // One step of the plain walk: the least open pair is folded or closed; at the target, or with no open pair, the walk has ended.
@@ -180,11 +130,10 @@ pub fn plain_step(
     open: usize,
     live: usize,
     target: usize,
-    limit: Limit,
-    bound: f32,
+    bounds: Bounds,
 ) -> Stepped
     requires { ⌜ Holds v f (now w) (now p) (now q) «open» live ⌝ }
-    ensures { λ r. ⌜ StepDone v f (now (w .entry)) (now (p .entry)) (now (q .entry)) «open» target limit bound (now (w .exit)) (now (p .exit)) (now (q .exit)) r ⌝ }
+    ensures { λ r. ⌜ StepDone v f (now (w .entry)) (now (p .entry)) (now (q .entry)) «open» target (bounds .limit) (bounds .size) (now (w .exit)) (now (p .exit)) (now (q .exit)) r ⌝ }
 {
     if live <= target {
         return Stepped {
@@ -200,18 +149,8 @@ pub fn plain_step(
             live,
         };
     }
-    let least = openpairs::least_pair(w, p, q, v, f, open, bound);
-    try_pair(w, p, q, v, f, open, live, least, limit, bound)
-}
-
-// Writes a fold down, after others.
-pub fn note_fold(w: &mut [u32], v: usize, f: usize, folds: usize, pair: Pair)
-    requires { ⌜ folds < f ⌝ ∗ ⌜ Room v f (now w) ⌝ }
-    ensures { λ _. ⌜ now (w .exit) ≡ withFold v f folds (pair .keep) (pair .remove) (now (w .entry)) ⌝ }
-{
-    let at = 24 * f + 5 * v + 2 * folds;
-    w[at] = pair.keep;
-    w[at + 1] = pair.remove;
+    let least = openpairs::least_pair(w, p, q, v, f, open, bounds);
+    try_pair(w, p, q, v, f, open, live, least, bounds)
 }
 
 // Takes steps of the plain walk from any state, to the end.
@@ -224,23 +163,22 @@ fn walk_on(
     open: usize,
     live: usize,
     target: usize,
-    limit: Limit,
-    bound: f32,
+    bounds: Bounds,
 ) -> Walked
     requires { ⌜ Holds v f (now w) (now p) (now q) «open» live ⌝ }
-    ensures { λ r. ⌜ WalkedFrom v f (stateOf v f (now (w .entry)) (now (p .entry)) (now (q .entry)) «open») (now (w .entry)) (now (p .entry)) (now (q .entry)) target limit bound (now (w .exit)) (now (p .exit)) (now (q .exit)) r ⌝ }
+    ensures { λ r. ⌜ WalkedFrom v f (stateOf v f (now (w .entry)) (now (p .entry)) (now (q .entry)) «open») (now (w .entry)) (now (p .entry)) (now (q .entry)) target (bounds .limit) (bounds .size) (now (w .exit)) (now (p .exit)) (now (q .exit)) r ⌝ }
 {
     let mut pairs_open = open;
     let mut faces_live = live;
     let mut folds = 0;
     loop {
-        let stepped = plain_step(w, p, q, v, f, pairs_open, faces_live, target, limit, bound);
+        let stepped = plain_step(w, p, q, v, f, pairs_open, faces_live, target, bounds);
         pairs_open = stepped.open;
         faces_live = stepped.live;
         let step = stepped.step;
         match step {
             Step::Folded(pair) => {
-                note_fold(w, v, f, folds, pair);
+                memory::note_fold(w, v, f, folds, pair);
                 folds += 1;
             }
             Step::Closed(_) => {}
@@ -262,12 +200,11 @@ pub fn plain_walk(
     v: usize,
     f: usize,
     target: usize,
-    limit: Limit,
-    bound: f32,
+    bounds: Bounds,
 ) -> Walked
     requires { ⌜ Tidy v f (now w) ⌝ ∗ ⌜ length (liveFaces f (now w)) ≡ f ⌝ ∗ ⌜ 3 * v ≤ length (now p) ⌝ ∗ ⌜ 10 * v ≤ length (now q) ⌝ }
-    ensures { λ r. ⌜ WalkDone v f (now (w .entry)) (now (p .entry)) (now (q .entry)) target limit bound (now (w .exit)) (now (p .exit)) (now (q .exit)) r ⌝ }
+    ensures { λ r. ⌜ WalkDone v f (now (w .entry)) (now (p .entry)) (now (q .entry)) target (bounds .limit) (bounds .size) (now (w .exit)) (now (p .exit)) (now (q .exit)) r ⌝ }
 {
-    let open = openpairs::open_start(w, p, q, v, f, limit, bound);
-    walk_on(w, p, q, v, f, open, f, target, limit, bound)
+    let open = openpairs::open_start(w, p, q, v, f, bounds);
+    walk_on(w, p, q, v, f, open, f, target, bounds)
 }

@@ -10,23 +10,24 @@ use Rattle.memory.specs.Memory.{Room}
 use Rattle.lists.specs.Frames.{Written}
 use Rattle.lists.proofs.FrameLaws.{but-then, but-widen}
 use Rattle.mesh.proofs.AroundLaws.{sum-slots}
-use Rattle.lists.proofs.BelowSums.{sum-same-below}
+use Rattle.lists.proofs.BelowLaws.{sum-same-below}
 use Rattle.memory.specs.Entries.{slotAt}
 use Rattle.queue.specs.Contracts.Changes.{Emptied}
 use Rattle.queue.proofs.EntryLaws.{room-but}
+use Rattle.memory.specs.Layout.{costsTo, orderFrom, stampsFrom}
 
-pub emptied : {v f : ℕ} {w w' w'' : List ℕ} {q : List Float} → Room v f w → 10 * v + 3 * f ≤ length q →
-    Written (7 * f + 3 * v) v (λ i. 0) w w' → Written (15 * f + 5 * v) (3 * f) (λ i. i) w' w'' → Emptied v f w q w''
+pub emptied : {v f : ℕ} {w w' w'' : List ℕ} {q : List Float} → Room v f w → costsTo v f ≤ length q →
+    Written (stampsFrom v f) v (λ i. 0) w w' → Written (orderFrom v f) (3 * f) (λ i. i) w' w'' → Emptied v f w q w''
 emptied {v} {f} {w} {w'} {w''} room costs-long stamps order =
     record {
       but = but-then (but-widen (omega arith) (omega arith) (stamps .but)) (but-widen (omega arith) (omega arith) (order .but));
-      stamps = λ x inside. order .but .under (7 * f + 3 * v + x) (omega arith) ∙ stamps .cells x inside;
+      stamps = λ x inside. order .but .under (stampsFrom v f + x) (omega arith) ∙ stamps .cells x inside;
       queue = record {
         room = room-but (order .but) (room-but (stamps .but) room);
         costs-long = costs-long;
         few = zero-le;
         each-once = λ g.
-            sum-slots g w'' (15 * f + 5 * v) (3 * f) ∙ sum-same-below (λ i. g (slotAt v f w'' i)) g (3 * f) (λ i inside. ap g (order .cells i inside));
+            sum-slots g w'' (orderFrom v f) (3 * f) ∙ sum-same-below (λ i. g (slotAt v f w'' i)) g (3 * f) (λ i inside. ap g (order .cells i inside));
         ordered = λ k positive inside low. absurd (omega arith);
       };
     }

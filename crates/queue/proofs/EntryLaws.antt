@@ -1,23 +1,23 @@
 -- What an entry is hangs on no cell of the order: its pair, its rank, and whether it is current. So the open pairs can be summed over another order.
 -- Assumes nothing.
-use Prim.Native.Nat.{ℕ, _+_, _*_, _<_}
+use Prim.Native.Nat.{ℕ, _<_}
 use native.Mathlib.Omega.{arith}
-use mathlib.Core.Path.{_≡_, sym, ap, ap₂, _∙_}
-use mathlib.Core.List.{List}
-use mathlib.Core.Bool.{Bool, true, _&&_, cond}
-use lib.Dec.{eqb}
+use mathlib.Core.Path.{_≡_, sym, ap₂, _∙_}
+use mathlib.Core.List.{List, []}
+use mathlib.Core.Bool.{Bool, true, cond}
 use lib.ListN.{length}
 use lib.Ieee.{Float}
 use Rattle.walk.specs.declared.Pair.{Pair}
 use Rattle.lists.specs.Lists.{sum, those}
 use Rattle.lists.proofs.SumLaws.{sum-map, sum-those, sum-length}
-use Rattle.walk.proofs.SamePairs.{pair-path}
 use Rattle.memory.specs.Memory.{Room}
 use Rattle.lists.specs.Frames.{But}
-use Rattle.memory.specs.Entries.{pairAt, slotAt, queued, stamp}
+use Rattle.memory.specs.Entries.{pairAt, slotAt, queued}
 use Rattle.queue.specs.State.{isCurrent, isQueued, openIn}
 use Rattle.queue.specs.Contracts.Queued.{Queue, Named, Entered}
-use Rattle.queue.proofs.OrderLaws.{sum-members, place-queued, queued-slot}
+use Rattle.queue.proofs.OrderLaws.{sum-members, place-queued}
+use Rattle.queue.proofs.MovedLaws.{Moved, untouched, moved-but, pair-moved, current-same, queue-slot}
+use Rattle.memory.specs.Layout.{keepStampsFrom, orderFrom}
 
 -- a weight of a slot where it is current, else nothing, and a weight of its pair
 abbrev pub ifCurrent : (v f : ℕ) (w : List ℕ) (g : ℕ → ℕ) (s : ℕ) → ℕ
@@ -39,8 +39,8 @@ open-length v f w n = sym (sum-length (openIn v f w n)) ∙ open-sum v f w n (λ
 -- what is queued is a slot with a pair
 pub queue-entered : {v f : ℕ} {w : List ℕ} {q : List Float} {n : ℕ} → Queue v f w q n → Named v f w n →
     (s : ℕ) → isQueued v f w n s ≡ true → Entered v f w s
-queue-entered {v} {f} {w} queue named s there =
-    record { slot = queued-slot v f w (queue .each-once) (queue .few) s there; keep = named s there .0; remove = named s there .1 }
+queue-entered queue named s there =
+    record { slot = queue-slot queue s there; keep = named s there .0; remove = named s there .1 }
 
 pub place-entered : {v f : ℕ} {w : List ℕ} {q : List Float} {n : ℕ} → Queue v f w q n → Named v f w n →
     (i : ℕ) → i < n → Entered v f w (slotAt v f w i)
@@ -52,28 +52,10 @@ room-but but room =
     let same = but .same-length in
     record { points-few = room .points-few; faces-few = room .faces-few; long = omega arith }
 
-module _ (v f : ℕ) {w w' : List ℕ} (but : But (15 * f + 5 * v) (18 * f + 5 * v) w w') where
-  pub pair-kept : {s : ℕ} → s < 3 * f → pairAt v f w' s ≡ pairAt v f w s
-  pair-kept {s} inside = pair-path (but .under (7 * f + 4 * v + s) (omega arith)) (but .under (10 * f + 4 * v + s) (omega arith))
-
-  stamp-kept : {x : ℕ} → x < v → stamp v f w' x ≡ stamp v f w x
-  stamp-kept {x} inside = but .under (7 * f + 3 * v + x) (omega arith)
-
-  pub current-kept : {s : ℕ} → Entered v f w s → isCurrent v f w' s ≡ isCurrent v f w s
-  current-kept {s} entered =
-      let pair = pair-kept (entered .slot) in
-      ap₂ _&&_
-      (ap₂ eqb (but .over (18 * f + 5 * v + s) (omega arith)) (ap (λ (p : Pair). stamp v f w' (p .keep)) pair ∙ stamp-kept (entered .keep)))
-      (ap₂ eqb (but .over (21 * f + 5 * v + s) (omega arith)) (ap (λ (p : Pair). stamp v f w' (p .remove)) pair ∙ stamp-kept (entered .remove)))
-
-  pub entered-kept : {s : ℕ} → Entered v f w s → Entered v f w' s
-  entered-kept {s} entered =
-      let pair = pair-kept (entered .slot) in
-      record {
-        slot = entered .slot;
-        keep = rw (ap (λ (p : Pair). p .keep) pair) (entered .keep);
-        remove = rw (ap (λ (p : Pair). p .remove) pair) (entered .remove);
-      }
+module _ (v f : ℕ) {w w' : List ℕ} (but : But (orderFrom v f) (keepStampsFrom v f) w w') where
+  -- the order alone changes, so every entry stays, whatever the points and the costs are
+  pub order-moved : Moved v f w [] [] w' [] [] untouched
+  order-moved = moved-but [] [] but (omega arith) (omega arith)
 
   -- the open pairs of another order, weighed as before
   pub open-sum-kept : (n : ℕ) → ((s : ℕ) → isQueued v f w' n s ≡ true → Entered v f w s) → (g : Pair → ℕ) →
@@ -81,4 +63,4 @@ module _ (v f : ℕ) {w w' : List ℕ} (but : But (15 * f + 5 * v) (18 * f + 5 *
   open-sum-kept n entered g =
       open-sum v f w' n g
       ∙ sum-members (weighed v f w' g) (weighed v f w g) (queued v f w' n)
-      (λ s there. ap₂ (λ (b : Bool) (p : Pair). cond b (g p) 0) (current-kept (entered s there)) (pair-kept (entered s there .slot)))
+      (λ s there. ap₂ (λ (b : Bool) (p : Pair). cond b (g p) 0) (current-same order-moved (entered s there)) (pair-moved order-moved s (entered s there .slot)))

@@ -9,7 +9,7 @@ use mathlib.Core.Bool.{Bool, true, false, not}
 use lib.Dec.{ltb, eqb}
 use borrow.Author.Tests.{lt-ltb, le-ltb, ltb-true, ltb-false, eqb-true, eqb-false, not-true, not-false}
 use Rattle.lists.proofs.TestLaws.{by-test}
-use Rattle.queue.specs.Contracts.Places.{firstOf}
+use Rattle.queue.specs.Contracts.Places.{lesserOf}
 
 -- the place over another
 abbrev pub over : ℕ → ℕ
@@ -119,16 +119,16 @@ module _ {r : ℕ → ℕ} where
 
 module _ (r : ℕ → ℕ) (n i j : ℕ) where
   -- by what the tests say
-  pub first-is-second : {b : Bool} → j < n → b ≡ ltb (r j) (r i) → b ≡ true → j ≡ firstOf r n i j
-  unfolding firstOf
+  pub first-is-second : {b : Bool} → j < n → b ≡ ltb (r j) (r i) → b ≡ true → j ≡ lesserOf r n i j
+  unfolding lesserOf
   first-is-second inside same lower = rw (lt-ltb j n inside, ← same, lower)
 
-  pub first-stays : {b : Bool} → j < n → b ≡ ltb (r j) (r i) → b ≡ false → i ≡ firstOf r n i j
-  unfolding firstOf
+  pub first-stays : {b : Bool} → j < n → b ≡ ltb (r j) (r i) → b ≡ false → i ≡ lesserOf r n i j
+  unfolding lesserOf
   first-stays inside same higher = rw (lt-ltb j n inside, ← same, higher)
 
-  pub first-alone : n ≤ j → i ≡ firstOf r n i j
-  unfolding firstOf
+  pub first-alone : n ≤ j → i ≡ lesserOf r n i j
+  unfolding lesserOf
   first-alone outside = rw (le-ltb j n outside)
 
 -- it is one of the two, and not above either
@@ -138,8 +138,8 @@ pub record Lower (r : ℕ → ℕ) (n i j first : ℕ) : Type 0 where
   pub one : r first ≤ r i
   pub two : j < n → r first ≤ r j
 
-pub first-lower : {r : ℕ → ℕ} {n i j first : ℕ} → i < n → first ≡ firstOf r n i j → Lower r n i j first
-unfolding firstOf
+pub first-lower : {r : ℕ → ℕ} {n i j first : ℕ} → i < n → first ≡ lesserOf r n i j → Lower r n i j first
+unfolding lesserOf
 first-lower {r} {n} {i} {j} {first} inside e =
     by-test (ltb j n)
     (λ t.

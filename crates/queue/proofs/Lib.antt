@@ -3,6 +3,7 @@ pub mod HeapLaws
 pub mod SwapLaws
 pub mod RootLaws
 pub mod OrderLaws
+pub mod MovedLaws
 pub mod EntryLaws
 pub mod EmptyLaws
 pub mod PopLaws

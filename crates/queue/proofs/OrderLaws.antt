@@ -13,11 +13,9 @@ use lib.ListN.{length, getD, length-map}
 use borrow.Author.Tests.{eq-eqb, eqb-true, lt-ltb, ltb-true}
 use Rattle.lists.specs.Lists.{sum, count, every, some, below}
 use Rattle.lists.proofs.TestLaws.{by-test, flag-true}
-use Rattle.lists.proofs.SumLaws.{sum-zero, some-count, some-from, length-below}
-use Rattle.lists.proofs.ListLaws.{count-below}
-use Rattle.lists.proofs.BelowSums.{every-counted}
-use Rattle.lists.proofs.BelowLaws.{map-same}
-use Rattle.lists.proofs.EachLaws.{getD-each}
+use Rattle.lists.proofs.SumLaws.{sum-zero}
+use Rattle.lists.proofs.EveryLaws.{some-count, some-from, every-counted}
+use Rattle.lists.proofs.BelowLaws.{length-below, count-below, map-same-below, getD-each}
 use Rattle.queue.proofs.RootLaws as pop-laws
 use Rattle.queue.proofs.RootLaws.{sifted-more}
 use Rattle.memory.specs.Entries.{slotAt, queued}
@@ -99,7 +97,7 @@ module _ (v f : ℕ) where
   -- where the places hold the same, so does any sum
   pub queued-agree : (g : ℕ → ℕ) (w w' : List ℕ) (n : ℕ) → ((j : ℕ) → j < n → slotAt v f w' j ≡ slotAt v f w j) →
       sum g (queued v f w' n) ≡ sum g (queued v f w n)
-  queued-agree g w w' n same = ap (sum g) (map-same (slotAt v f w') (slotAt v f w) n same)
+  queued-agree g w w' n same = ap (sum g) (map-same-below (slotAt v f w') (slotAt v f w) n same)
 
 -- any weight summed over more places is the same too
 pub sifted-sums : {v f n : ℕ} {w w' : List ℕ} → Sifted v f n w w' → {m : ℕ} → n ≤ m → (g : ℕ → ℕ) → sum g (queued v f w' m) ≡ sum g (queued v f w m)

@@ -1,6 +1,6 @@
 -- The entry on top is taken off: it changes places with the last one, which then moves down.
 -- Assumes nothing.
-use Prim.Native.Nat.{ℕ, _+_, _-_, _*_, _≤_, _<_}
+use Prim.Native.Nat.{ℕ, _-_, _*_, _≤_, _<_}
 use native.Mathlib.Omega.{arith}
 use mathlib.Core.Path.{_≡_, _∙_}
 use mathlib.Core.List.{List}
@@ -19,9 +19,10 @@ use Rattle.queue.proofs.RootLaws.{slotted-fewer, root-least, exchanged-
 use Rattle.queue.proofs.SwapLaws.{swapped, sifted-slotted}
 use Rattle.queue.proofs.OrderLaws.{every-members, place-queued, queued-slot, sifted-sums}
 use Rattle.queue.proofs.EntryLaws.{room-but}
+use Rattle.memory.specs.Layout.{keepStampsFrom, orderFrom}
 
 -- a change of the order among its first n
-pub sifted-order : {v f n : ℕ} {w w' : List ℕ} → n ≤ 3 * f → Sifted v f n w w' → But (15 * f + 5 * v) (18 * f + 5 * v) w w'
+pub sifted-order : {v f n : ℕ} {w w' : List ℕ} → n ≤ 3 * f → Sifted v f n w w' → But (orderFrom v f) (keepStampsFrom v f) w w'
 sifted-order few sifted = but-widen (omega arith) (omega arith) (sifted .but)
 
 -- every slot is listed once still

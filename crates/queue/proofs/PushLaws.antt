@@ -18,7 +18,7 @@ use Rattle.lists.specs.Lists.{sum, below, SameBag}
 use Rattle.walk.specs.Pairs.{pairOf}
 use Rattle.lists.proofs.BagLaws.{bag-some}
 use Rattle.lists.specs.Frames.{But}
-use Rattle.lists.proofs.BelowLaws.{map-same}
+use Rattle.lists.proofs.BelowLaws.{map-same-below}
 use Rattle.lists.proofs.FrameLaws.{but-refl, but-widen}
 use Rattle.memory.specs.Points.{vertexAt}
 use Rattle.memory.specs.Entries.{pairAt, slotAt, queued, costIn, stamp, keepStamp, removeStamp, entryPlace}
@@ -29,8 +29,10 @@ use Rattle.queue.specs.Contracts.Queued.{Queue, Named, Kept}
 use Rattle.queue.specs.Contracts.Changes.{Pushed}
 use Rattle.queue.specs.Contracts.Pushing.{RoomMade, EntryPut}
 use Rattle.queue.proofs.OrderLaws.{sum-members, queued-next, place-queued, queued-slot, sifted-sums}
-use Rattle.queue.proofs.EntryLaws.{weighed, open-sum, room-but, pair-kept}
-use Rattle.queue.proofs.PushLawsSlots.{one-of-more, slot-below, slots-below, other-slot}
+use Rattle.queue.proofs.EntryLaws.{weighed, open-sum, order-moved, room-but}
+use Rattle.queue.proofs.PushLawsSlots.{one-of-more, slots-below, other-slot}
+use Rattle.queue.proofs.MovedLaws.{holds-slot, pair-moved}
+use Rattle.memory.specs.Layout.{keepStampsFrom, orderFrom, placesTo}
 use Rattle.queue.proofs.PushLawsEntry.{
   EntryIn,
   put-slots,
@@ -49,7 +51,7 @@ use Rattle.queue.proofs.PushLawsEntry.{
   here-cost,
   other-place,
   other-cost,
-  point-same,
+  point-kept,
   quadric-kept,
   rank-same,
 }
@@ -60,10 +62,10 @@ module _ {v f s keep remove n : ℕ} {cost : Float} {place : Point} {w w' : List
     (free : n < 3 * f) (is-slot : s ≡ slotAt v f w n) (keep-v : keep < v) (remove-v : remove < v)
     (put : EntryPut v f w p q s keep remove cost place w' p' q') where
   pub slot-inside : s < 3 * f
-  slot-inside = rw is-slot (slot-below queue n free)
+  slot-inside = rw is-slot (holds-slot queue n free)
 
   pub put-queued : (m : ℕ) → m ≤ 3 * f → queued v f w' m ≡ queued v f w m
-  put-queued m most = map-same (slotAt v f w') (slotAt v f w) m (λ k l. put-slots (queue .room) slot-inside put k (omega arith))
+  put-queued m most = map-same-below (slotAt v f w') (slotAt v f w) m (λ k l. put-slots (queue .room) slot-inside put k (omega arith))
 
   written : EntryIn v f w s keep remove w'
   written = entry-in (queue .room) slot-inside put keep-v remove-v (but-refl _ _ w) (but-refl _ _ w')
@@ -80,7 +82,7 @@ module _ {v f s keep remove n : ℕ} {cost : Float} {place : Point} {w w' : List
   rank-kept : (i : ℕ) → i < n → rankAt v f w' q' i ≡ rankAt v f w q i
   rank-kept i l =
       let t = slotAt v f w i in
-      let inside : t < 3 * f = slot-below queue i (omega arith) in
+      let inside : t < 3 * f = holds-slot queue i (omega arith) in
       let other : t ≢ s = λ e. other-slot queue free t (place-queued v f w l) (e ∙ is-slot) in
       ap (rankIn v f w' q') (put-slots (queue .room) slot-inside put i (omega arith))
       ∙ rank-same v f w w' q q' t (other-pair written t inside other) (other-cost slot-inside put t other)
@@ -122,13 +124,13 @@ kept-all each = record {
 -- ---- room made, the entry written, its slot sifted up
 
 module _ {v f n keep remove count s : ℕ} {cost : Float} {place : Point} {w w₁ w₂ w₃ : List ℕ} {p q p' q' : List Float}
-    (queue : Queue v f w q n) (named : Named v f w n) (long : 3 * v + 9 * f ≤ length p) (points : (keep < v) × (remove < v))
+    (queue : Queue v f w q n) (named : Named v f w n) (long : placesTo v f ≤ length p) (points : (keep < v) × (remove < v))
     (made : RoomMade v f w q n w₁ count) (is-slot : s ≡ slotAt v f w₁ count) (put : EntryPut v f w₁ p q s keep remove cost place w₂ p' q')
     (sifted : Sifted v f (count + 1) w₂ w₃) where
   inside : s < 3 * f
   inside = slot-inside (made .queue) (made .free) is-slot (points .0) (points .1) put
 
-  after : But (15 * f + 5 * v) (18 * f + 5 * v) w₂ w₃
+  after : But (orderFrom v f) (keepStampsFrom v f) w₂ w₃
   after = let free = made .free in but-widen (omega arith) (omega arith) (sifted .but)
 
   -- from the start, and from where room was made
@@ -159,7 +161,7 @@ module _ {v f n keep remove count s : ℕ} {cost : Float} {place : Point} {w w�
 
   old-named : (t : ℕ) → isQueued v f w₁ count t ≡ true → (pairAt v f w₁ t .keep < v) × (pairAt v f w₁ t .remove < v)
   old-named t among =
-      subst (λ (pair : Pair). (pair .keep < v) × (pair .remove < v)) (sym (pair-kept v f (made .but) (old-inside t among)))
+      subst (λ (pair : Pair). (pair .keep < v) × (pair .remove < v)) (sym (pair-moved (order-moved v f (made .but)) t (old-inside t among)))
       (named t (made .fewer t among))
 
   -- ---- the open pairs
@@ -224,7 +226,7 @@ module _ {v f n keep remove count s : ℕ} {cost : Float} {place : Point} {w w�
   -- ---- what the entries know
 
   vertex-same : (x : ℕ) → x < v → vertexAt v f w₃ p' q' x ≡ vertexAt v f w p q x
-  vertex-same x l = rw (point-same inside put x l, quadric-kept inside put x l, kind-same whole x l)
+  vertex-same x l = rw (point-kept inside put x l, quadric-kept inside put x l, kind-same whole x l)
 
   module _ (bound : Float) where
     -- an entry of the points x and y, by what was known of them before

@@ -26,7 +26,8 @@ use Rattle.memory.specs.Entries.{pairAt, slotAt, costIn, stamp, keepStamp, remo
 use Rattle.openpairs.proofs.OpenLaws.{pushed-but, pushed-here}
 use Rattle.queue.specs.Contracts.Ranks.{rankIn}
 use Rattle.queue.specs.State.{isCurrent}
-use Rattle.queue.specs.Contracts.Pushing.{withPair, EntryPut}
+use Rattle.queue.specs.Contracts.Pushing.{withPair, withStamps, EntryPut}
+use Rattle.memory.specs.Layout.{costsTo, foldsFrom, keepStampsFrom, keepsFrom, kindsFrom, orderFrom, placesTo, removeStampsFrom, removesFrom, stampsFrom}
 
 -- ---- two cells written
 
@@ -45,6 +46,11 @@ module _ (w : List ℕ) (i j a b : ℕ) where
 
 -- ---- the u32 memory
 
+-- the pair is written, and then the two stamps that were read
+pub put-words : (v f : ℕ) (w : List ℕ) (s keep remove : ℕ) {a b : ℕ} {w₁ w' : List ℕ} → w' ≡ withStamps v f w₁ s a b → w₁ ≡ withPair v f w s keep remove →
+    a ≡ stamp v f w keep → b ≡ stamp v f w remove → w' ≡ withStamps v f (withPair v f w s keep remove) s (stamp v f w keep) (stamp v f w remove)
+put-words v f w s keep remove stamped paired keeps removes = rw (stamped, paired, keeps, removes)
+
 -- an entry stands in slot s, with the stamps that its points had, and whatever became of the order, no cell but the entry's own has changed
 pub record EntryIn (v f : ℕ) (w : List ℕ) (s keep remove : ℕ) (w' : List ℕ) : Type 0 where
   pub slot : s < 3 * f
@@ -52,8 +58,8 @@ pub record EntryIn (v f : ℕ) (w : List ℕ) (s keep remove : ℕ) (w' : List �
   pub pair : pairAt v f w' s ≡ pairOf keep remove
   pub keeps : keepStamp v f w' s ≡ stamp v f w keep
   pub removes : removeStamp v f w' s ≡ stamp v f w remove
-  pub under : (i : ℕ) → i < 15 * f + 5 * v → i ≢ 7 * f + 4 * v + s → i ≢ 10 * f + 4 * v + s → getD w' i 0 ≡ getD w i 0
-  pub over : (i : ℕ) → 18 * f + 5 * v ≤ i → i ≢ 18 * f + 5 * v + s → i ≢ 21 * f + 5 * v + s → getD w' i 0 ≡ getD w i 0
+  pub under : (i : ℕ) → i < orderFrom v f → i ≢ keepsFrom v f + s → i ≢ removesFrom v f + s → getD w' i 0 ≡ getD w i 0
+  pub over : (i : ℕ) → keepStampsFrom v f ≤ i → i ≢ keepStampsFrom v f + s → i ≢ removeStampsFrom v f + s → getD w' i 0 ≡ getD w i 0
 
 module _ {v f s keep remove : ℕ} {cost : Float} {place : Point} {w w' : List ℕ} {p q p' q' : List Float} (room : Room v f w) (inside : s < 3 * f)
     (put : EntryPut v f w p q s keep remove cost place w' p' q') where
@@ -68,53 +74,53 @@ module _ {v f s keep remove : ℕ} {cost : Float} {place : Point} {w w' : List �
   unfolding paired
   put-length =
       ap length (put .words)
-      ∙ two-length paired (18 * f + 5 * v + s) (21 * f + 5 * v + s) (stamp v f w keep) (stamp v f w remove)
+      ∙ two-length paired (keepStampsFrom v f + s) (removeStampsFrom v f + s) (stamp v f w keep) (stamp v f w remove)
       ∙ paired-length
 
-  put-other : (i : ℕ) → i ≢ 7 * f + 4 * v + s → i ≢ 10 * f + 4 * v + s → i ≢ 18 * f + 5 * v + s → i ≢ 21 * f + 5 * v + s →
+  put-other : (i : ℕ) → i ≢ keepsFrom v f + s → i ≢ removesFrom v f + s → i ≢ keepStampsFrom v f + s → i ≢ removeStampsFrom v f + s →
       getD w' i 0 ≡ getD w i 0
   unfolding paired
   put-other i one two three four =
       rw (put .words)
-      (two-other paired (18 * f + 5 * v + s) (21 * f + 5 * v + s) (stamp v f w keep) (stamp v f w remove) i three four
-      ∙ two-other w (7 * f + 4 * v + s) (10 * f + 4 * v + s) keep remove i one two)
+      (two-other paired (keepStampsFrom v f + s) (removeStampsFrom v f + s) (stamp v f w keep) (stamp v f w remove) i three four
+      ∙ two-other w (keepsFrom v f + s) (removesFrom v f + s) keep remove i one two)
 
   pub put-slots : (i : ℕ) → i < 3 * f → slotAt v f w' i ≡ slotAt v f w i
-  put-slots i l = put-other (15 * f + 5 * v + i) (omega arith) (omega arith) (omega arith) (omega arith)
+  put-slots i l = put-other (orderFrom v f + i) (omega arith) (omega arith) (omega arith) (omega arith)
 
   put-pair : pairAt v f w' s ≡ pairOf keep remove
   unfolding paired
   put-pair =
-      let stamped : (i : ℕ) → i < 18 * f + 5 * v → getD w' i 0 ≡ getD paired i 0 =
+      let stamped : (i : ℕ) → i < keepStampsFrom v f → getD w' i 0 ≡ getD paired i 0 =
       λ i l. rw (put .words)
-      (two-other paired (18 * f + 5 * v + s) (21 * f + 5 * v + s) (stamp v f w keep) (stamp v f w remove) i (omega arith) (omega arith)) in
-      pair-path (stamped (7 * f + 4 * v + s) (omega arith)) (stamped (10 * f + 4 * v + s) (omega arith))
+      (two-other paired (keepStampsFrom v f + s) (removeStampsFrom v f + s) (stamp v f w keep) (stamp v f w remove) i (omega arith) (omega arith)) in
+      pair-path (stamped (keepsFrom v f + s) (omega arith)) (stamped (removesFrom v f + s) (omega arith))
       ∙ pushed-here room s keep remove inside
 
   put-keeps : keepStamp v f w' s ≡ stamp v f w keep
   unfolding paired
   put-keeps =
       rw (put .words)
-      (two-first paired (18 * f + 5 * v + s) (21 * f + 5 * v + s) (stamp v f w keep) (stamp v f w remove) (omega arith)
+      (two-first paired (keepStampsFrom v f + s) (removeStampsFrom v f + s) (stamp v f w keep) (stamp v f w remove) (omega arith)
       (rw paired-length (omega arith)))
 
   put-removes : removeStamp v f w' s ≡ stamp v f w remove
   unfolding paired
   put-removes =
       rw (put .words)
-      (two-second paired (18 * f + 5 * v + s) (21 * f + 5 * v + s) (stamp v f w keep) (stamp v f w remove)
+      (two-second paired (keepStampsFrom v f + s) (removeStampsFrom v f + s) (stamp v f w keep) (stamp v f w remove)
       (rw paired-length (omega arith)))
 
   -- with changes of the order before and after
   pub entry-in : {w₀ w₃ : List ℕ} → keep < v → remove < v →
-      But (15 * f + 5 * v) (18 * f + 5 * v) w₀ w → But (15 * f + 5 * v) (18 * f + 5 * v) w' w₃ → EntryIn v f w₀ s keep remove w₃
+      But (orderFrom v f) (keepStampsFrom v f) w₀ w → But (orderFrom v f) (keepStampsFrom v f) w' w₃ → EntryIn v f w₀ s keep remove w₃
   entry-in keep-v remove-v before after = record {
     slot = inside;
     same-length = after .same-length ∙ put-length ∙ before .same-length;
     pair =
-        pair-path (after .under (7 * f + 4 * v + s) (omega arith)) (after .under (10 * f + 4 * v + s) (omega arith)) ∙ put-pair;
-    keeps = after .over (18 * f + 5 * v + s) (omega arith) ∙ put-keeps ∙ before .under (7 * f + 3 * v + keep) (omega arith);
-    removes = after .over (21 * f + 5 * v + s) (omega arith) ∙ put-removes ∙ before .under (7 * f + 3 * v + remove) (omega arith);
+        pair-path (after .under (keepsFrom v f + s) (omega arith)) (after .under (removesFrom v f + s) (omega arith)) ∙ put-pair;
+    keeps = after .over (keepStampsFrom v f + s) (omega arith) ∙ put-keeps ∙ before .under (stampsFrom v f + keep) (omega arith);
+    removes = after .over (removeStampsFrom v f + s) (omega arith) ∙ put-removes ∙ before .under (stampsFrom v f + remove) (omega arith);
     under = λ i l one two. after .under i l ∙ put-other i one two (omega arith) (omega arith) ∙ before .under i l;
     over = λ i l one two. after .over i l ∙ put-other i (omega arith) (omega arith) one two ∙ before .over i l;
   }
@@ -122,7 +128,7 @@ module _ {v f s keep remove : ℕ} {cost : Float} {place : Point} {w w' : List �
 -- ---- what it says of entries
 
 module _ {v f s keep remove : ℕ} {w w' : List ℕ} (entry : EntryIn v f w s keep remove w') where
-  pub entry-but : But (7 * f + 4 * v) (24 * f + 5 * v) w w'
+  pub entry-but : But (keepsFrom v f) (foldsFrom v f) w w'
   entry-but = record {
     same-length = entry .same-length;
     under = λ i l. entry .under i (omega arith) (omega arith) (omega arith);
@@ -130,10 +136,10 @@ module _ {v f s keep remove : ℕ} {w w' : List ℕ} (entry : EntryIn v f w s ke
   }
 
   pub stamp-same : (x : ℕ) → x < v → stamp v f w' x ≡ stamp v f w x
-  stamp-same x l = entry .under (7 * f + 3 * v + x) (omega arith) (omega arith) (omega arith)
+  stamp-same x l = entry .under (stampsFrom v f + x) (omega arith) (omega arith) (omega arith)
 
   pub kind-same : (x : ℕ) → x < v → kind v f w' x ≡ kind v f w x
-  kind-same x l = entry .under (7 * f + v + x) (omega arith) (omega arith) (omega arith)
+  kind-same x l = entry .under (kindsFrom v f + x) (omega arith) (omega arith) (omega arith)
 
   -- a stamp that is the present one of a point stays so
   tested-same : {a a' x x' : ℕ} → a' ≡ a → x' ≡ x → x < v → eqb a' (stamp v f w' x') ≡ eqb a (stamp v f w x)
@@ -151,14 +157,14 @@ module _ {v f s keep remove : ℕ} {w w' : List ℕ} (entry : EntryIn v f w s ke
     pub other-pair : pairAt v f w' t ≡ pairAt v f w t
     other-pair =
         pair-path
-        (entry .under (7 * f + 4 * v + t) (omega arith) (omega arith) (omega arith))
-        (entry .under (10 * f + 4 * v + t) (omega arith) (omega arith) (omega arith))
+        (entry .under (keepsFrom v f + t) (omega arith) (omega arith) (omega arith))
+        (entry .under (removesFrom v f + t) (omega arith) (omega arith) (omega arith))
 
     pub other-keeps : keepStamp v f w' t ≡ keepStamp v f w t
-    other-keeps = entry .over (18 * f + 5 * v + t) (omega arith) (omega arith) (omega arith)
+    other-keeps = entry .over (keepStampsFrom v f + t) (omega arith) (omega arith) (omega arith)
 
     pub other-removes : removeStamp v f w' t ≡ removeStamp v f w t
-    other-removes = entry .over (21 * f + 5 * v + t) (omega arith) (omega arith) (omega arith)
+    other-removes = entry .over (removeStampsFrom v f + t) (omega arith) (omega arith) (omega arith)
 
     pub other-current : (pairAt v f w t .keep < v) × (pairAt v f w t .remove < v) → isCurrent v f w' t ≡ isCurrent v f w t
     other-current named =
@@ -170,27 +176,27 @@ module _ {v f s keep remove : ℕ} {w w' : List ℕ} (entry : EntryIn v f w s ke
 
 module _ {v f s keep remove : ℕ} {cost : Float} {place : Point} {w w' : List ℕ} {p q p' q' : List Float} (inside : s < 3 * f)
     (put : EntryPut v f w p q s keep remove cost place w' p' q') where
-  pub places-but : FloatsBut (3 * v) (3 * v + 9 * f) p p'
+  pub places-but : FloatsBut (3 * v) (placesTo v f) p p'
   unfolding withPoint
   places-but =
-      let end : 3 * (v + 3 * f) ≡ 3 * v + 9 * f = omega arith in
+      let end : 3 * (v + 3 * f) ≡ placesTo v f = omega arith in
       record {
         same-length = rw (put .places) (point-length p (v + s) place);
         under = λ i l. rw (put .places) (stored-other nan (pointParts place) p (3 * (v + s)) i (λ k h. omega arith));
         rest = rw (put .places) (rw end at (point-rest p (v + s) place (v + 3 * f) (omega arith)));
       }
 
-  pub costs-but : FloatsBut (10 * v) (10 * v + 3 * f) q q'
+  pub costs-but : FloatsBut (10 * v) (costsTo v f) q q'
   costs-but = record {
     same-length = rw (put .costs) (length-set q (10 * v + s) cost);
     under = λ i l. rw (put .costs) (getD-set-other q (10 * v + s) i cost nan (omega arith));
-    rest = rw (put .costs) (drop-set-lt (10 * v + 3 * f) q (10 * v + s) cost (omega arith));
+    rest = rw (put .costs) (drop-set-lt (costsTo v f) q (10 * v + s) cost (omega arith));
   }
 
-  pub here-place : 3 * v + 9 * f ≤ length p → entryPlace v p' s ≡ place
+  pub here-place : placesTo v f ≤ length p → entryPlace v p' s ≡ place
   here-place long = rw (put .places) (point-stored p (v + s) place (omega arith))
 
-  pub here-cost : 10 * v + 3 * f ≤ length q → costIn v q' s ≡ cost
+  pub here-cost : costsTo v f ≤ length q → costIn v q' s ≡ cost
   here-cost long = rw (put .costs) (getD-set-same q (10 * v + s) cost nan (omega arith))
 
   pub other-place : (t : ℕ) → t ≢ s → entryPlace v p' t ≡ entryPlace v p t
@@ -200,8 +206,8 @@ module _ {v f s keep remove : ℕ} {cost : Float} {place : Point} {w w' : List �
   other-cost t other = rw (put .costs) (getD-set-other q (10 * v + s) (10 * v + t) cost nan (λ e. other (omega arith)))
 
   -- what the points carry is as before
-  pub point-same : (x : ℕ) → x < v → pointAt p' x ≡ pointAt p x
-  point-same x l = rw (put .places) (point-other p (v + s) place x (omega arith))
+  pub point-kept : (x : ℕ) → x < v → pointAt p' x ≡ pointAt p x
+  point-kept x l = rw (put .places) (point-other p (v + s) place x (omega arith))
 
   pub quadric-kept : (x : ℕ) → x < v → quadricAt q' x ≡ quadricAt q x
   quadric-kept x l = quadric-same q' q x x (λ k h. costs-but .under (10 * x + k) (omega arith))

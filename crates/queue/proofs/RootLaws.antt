@@ -10,14 +10,16 @@ use lib.Dec.{ltb}
 use lib.Ieee.{Float}
 use borrow.Author.Tests.{lt-ltb}
 use Rattle.lists.specs.Lists.{sum, every, below}
-use Rattle.lists.proofs.SumLaws.{sum-map, sum-below}
+use Rattle.lists.proofs.SumLaws.{sum-map}
+use Rattle.lists.proofs.BelowLaws.{sum-below, sum-none}
 use Rattle.lists.proofs.FrameLaws.{but-widen}
-use Rattle.lists.proofs.BelowSums.{sum-none, every-counted}
+use Rattle.lists.proofs.EveryLaws.{every-counted}
 use Rattle.memory.specs.Entries.{slotAt, queued}
 use Rattle.queue.specs.Contracts.Ranks.{rankAt, HeapFrom}
 use Rattle.queue.specs.Contracts.Order.{Slotted, Sifted}
 use Rattle.queue.proofs.HeapLaws.{least-at-root, over}
 use Rattle.queue.proofs.SwapLaws.{swapped, swapped-slots, swapped-sifted, swapped-ranks, slotted-stands}
+use Rattle.memory.specs.Layout.{orderFrom}
 
 -- ---- more slots, and fewer
 
@@ -49,7 +51,7 @@ sums-more {v} {f} {n} {w} {w'} sifted g zero =
     rw same (sifted .sums g)
 sums-more {v} {f} {n} {w} {w'} sifted g (suc more) =
     let next : n + suc more ≡ n + more + 1 = omega arith in
-    let last : slotAt v f w' (n + more) ≡ slotAt v f w (n + more) = sifted .but .over (15 * f + 5 * v + (n + more)) (omega arith) in
+    let last : slotAt v f w' (n + more) ≡ slotAt v f w (n + more) = sifted .but .over (orderFrom v f + (n + more)) (omega arith) in
     rw next (queued-next v f w' g (n + more) ∙ ap₂ _+_ (sums-more sifted g more) (ap g last) ∙ sym (queued-next v f w g (n + more)))
 
 pub sifted-more : {v f n m : ℕ} {w w' : List ℕ} → Sifted v f n w w' → n ≤ m → Sifted v f m w w'

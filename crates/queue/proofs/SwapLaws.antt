@@ -17,13 +17,13 @@ use Rattle.lists.proofs.BagLaws.{bag-every}
 use Rattle.memory.specs.Memory.{Room}
 use Rattle.lists.specs.Frames.{But}
 use Rattle.lists.proofs.FrameLaws.{but-refl, but-then, but-set}
-use Rattle.lists.proofs.BelowLaws.{every-at}
-use Rattle.lists.proofs.AppendLaws.{sum-changed}
+use Rattle.lists.proofs.BelowLaws.{every-each, sum-changed}
 use Rattle.memory.specs.Entries.{slotAt, queued}
 use Rattle.queue.specs.Contracts.Ranks.{rankIn, rankAt}
 use Rattle.queue.specs.Contracts.Order.{Slotted, Sifted}
 use Rattle.queue.specs.Contracts.Places.{Stands}
 use Rattle.queue.proofs.HeapLaws.{Exchanged, by-same}
+use Rattle.memory.specs.Layout.{keepsFrom, orderFrom, removesFrom}
 
 -- ---- over the numbers below n
 
@@ -44,13 +44,13 @@ exchanged-sum {h} {h'} {n} {i} {j} inside-i inside-j exchanged =
 -- ---- in the order
 
 abbrev pub swapped : ℕ → ℕ → List ℕ → ℕ → ℕ → List ℕ
-swapped v f w i j = set (set w (15 * f + 5 * v + i) (slotAt v f w j)) (15 * f + 5 * v + j) (slotAt v f w i)
+swapped v f w i j = set (set w (orderFrom v f + i) (slotAt v f w j)) (orderFrom v f + j) (slotAt v f w i)
 
 -- what stands where
 pub swapped-slots : {v f : ℕ} {w : List ℕ} → Room v f w → (n i j : ℕ) → n ≤ 3 * f → i < n → j < n →
     Exchanged (slotAt v f w) (slotAt v f (swapped v f w i j)) n i j
 swapped-slots {v} {f} {w} room n i j few inside-i inside-j =
-    let from : ℕ = 15 * f + 5 * v in
+    let from : ℕ = orderFrom v f in
     let half : List ℕ = set w (from + i) (slotAt v f w j) in
     let second : slotAt v f (swapped v f w i j) j ≡ slotAt v f w i =
     getD-set-same half (from + j) (slotAt v f w i) 0 (simp length-set (omega arith)) in
@@ -68,7 +68,7 @@ pub swapped-sifted : {v f : ℕ} {w w' : List ℕ} → Room v f w → (n i j : �
     w' ≡ swapped v f w i j → Sifted v f n w w'
 swapped-sifted {v} {f} {w} {w'} room n i j few inside-i inside-j same =
     let there = swapped-slots room n i j few inside-i inside-j in
-    let from : ℕ = 15 * f + 5 * v in
+    let from : ℕ = orderFrom v f in
     rw same
     (record {
       but =
@@ -110,16 +110,16 @@ pub slotted-stands : {v f n : ℕ} {w : List ℕ} {q : List Float} → Slotted v
 slotted-stands {v} {f} {n} {w} slotted i inside =
     record {
       place = omega (arith, slotted .few);
-      slot = ltb-true _ _ (every-at (λ s. ltb s (3 * f)) (slotAt v f w) n (slotted .slots-below) i inside);
+      slot = ltb-true _ _ (every-each (λ s. ltb s (3 * f)) (slotAt v f w) n (slotted .slots-below) i inside);
     }
 
 -- ---- ranks
 
 -- a slot's rank hangs on no cell of the order
-pub rank-kept : (v f : ℕ) {hi : ℕ} {w w' : List ℕ} (q : List Float) → But (15 * f + 5 * v) hi w w' →
+pub rank-kept : (v f : ℕ) {hi : ℕ} {w w' : List ℕ} (q : List Float) → But (orderFrom v f) hi w w' →
     (s : ℕ) → s < 3 * f → rankIn v f w' q s ≡ rankIn v f w q s
 unfolding rankIn
-rank-kept v f q but s inside = rw (but .under (7 * f + 4 * v + s) (omega arith), but .under (10 * f + 4 * v + s) (omega arith))
+rank-kept v f q but s inside = rw (but .under (keepsFrom v f + s) (omega arith), but .under (removesFrom v f + s) (omega arith))
 
 -- so two ranks change places with their slots
 pub swapped-ranks : {v f n : ℕ} {w w' : List ℕ} {q : List Float} → Slotted v f w q n → (i j : ℕ) → i < n → j < n → w' ≡ swapped v f w i j →

@@ -1,6 +1,6 @@
 -- Entries are taken off the top up to the first current one: what holds before each turn, and what a turn does.
 -- Assumes nothing.
-use Prim.Native.Nat.{ℕ, _+_, _-_, _*_, _≤_, _<_}
+use Prim.Native.Nat.{ℕ, _+_, _-_, _≤_, _<_}
 use native.Mathlib.Omega.{arith}
 use mathlib.Core.Path.{_≡_, refl, sym, ap, ap₂, subst, _∙_}
 use mathlib.Core.List.{List, [], _∷_}
@@ -22,11 +22,13 @@ use Rattle.queue.specs.Contracts.Queued.{Queue, Named, Entered}
 use Rattle.queue.specs.Contracts.Changes.{Fewer, Popped, TakenOff, NoneLeft}
 use Rattle.queue.proofs.SwapLaws.{rank-kept}
 use Rattle.queue.proofs.OrderLaws.{member-of, counted-some, place-queued, queued-place}
-use Rattle.queue.proofs.EntryLaws.{weighed, ifCurrent, open-sum, open-length, open-sum-kept, queue-entered, current-kept, entered-kept}
+use Rattle.queue.proofs.EntryLaws.{weighed, ifCurrent, open-sum, open-length, open-sum-kept, order-moved, queue-entered}
+use Rattle.queue.proofs.MovedLaws.{current-same, entered-moved}
+use Rattle.memory.specs.Layout.{keepStampsFrom, orderFrom}
 
 -- Of the n entries that stood in w₀ left are queued, and those that were current are among them.
 pub record Taking (v f : ℕ) (w₀ : List ℕ) (q : List Float) (n : ℕ) (w : List ℕ) (left : ℕ) : Type 0 where
-  pub but : But (15 * f + 5 * v) (18 * f + 5 * v) w₀ w
+  pub but : But (orderFrom v f) (keepStampsFrom v f) w₀ w
   pub queue : Queue v f w q left
   pub fewer : Fewer v f w₀ n w left
   pub currents : (g : ℕ → ℕ) → sum (ifCurrent v f w₀ g) (queued v f w left) ≡ sum (ifCurrent v f w₀ g) (queued v f w₀ n)
@@ -51,7 +53,7 @@ taking-none {v} {f} {w₀} {q} {n} {w} {left} none end =
 
 module _ {v f : ℕ} {w₀ : List ℕ} {q : List Float} {n : ℕ} {w : List ℕ} {left : ℕ} {w' : List ℕ} {s : ℕ}
     (start : Queue v f w₀ q n) (named : Named v f w₀ n) (before : Taking v f w₀ q n w left) (popped : Popped v f w q left w' s) where
-  but-popped : But (15 * f + 5 * v) (18 * f + 5 * v) w₀ w'
+  but-popped : But (orderFrom v f) (keepStampsFrom v f) w₀ w'
   but-popped = but-then (before .but) (popped .but)
 
   fewer-popped : Fewer v f w₀ n w' (left - 1)
@@ -68,11 +70,11 @@ module _ {v f : ℕ} {w₀ : List ℕ} {q : List Float} {n : ℕ} {w : List ℕ}
   popped-entered = queue-entered start named s was-queued
 
   pub popped-kept : Entered v f w' s
-  popped-kept = entered-kept v f but-popped popped-entered
+  popped-kept = entered-moved (order-moved v f but-popped) popped-entered
 
   -- whether it is current is as before
   pub popped-current : {b : Bool} → b ≡ isCurrent v f w' s → isCurrent v f w₀ s ≡ b
-  popped-current e = sym (e ∙ current-kept v f but-popped popped-entered)
+  popped-current e = sym (e ∙ current-same (order-moved v f but-popped) popped-entered)
 
   -- it is old, and goes
   pub taking-old : isCurrent v f w₀ s ≡ false → Taking v f w₀ q n w' (left - 1)

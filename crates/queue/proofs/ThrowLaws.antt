@@ -21,8 +21,10 @@ use Rattle.queue.specs.Contracts.Queued.{Queue, Named, Entered}
 use Rattle.queue.specs.Contracts.Changes.{Fewer, CurrentFirst, ThrownOut}
 use Rattle.queue.proofs.SwapLaws.{swapped, swapped-slots, swapped-sifted, sifted-none, sifted-then}
 use Rattle.queue.proofs.OrderLaws.{member-of, queued-next, queued-length, queued-agree}
-use Rattle.queue.proofs.EntryLaws.{weighed, ifCurrent, open-sum, open-length, open-sum-kept, queue-entered, room-but, entered-kept, current-kept}
+use Rattle.queue.proofs.EntryLaws.{weighed, ifCurrent, open-sum, open-length, open-sum-kept, order-moved, queue-entered, room-but}
+use Rattle.queue.proofs.MovedLaws.{current-same, entered-moved}
 use Rattle.queue.proofs.PopLaws.{sifted-order, sifted-once, first-slotted}
+use Rattle.memory.specs.Layout.{keepStampsFrom, orderFrom}
 
 -- ---- the pass
 
@@ -56,10 +58,10 @@ module _ {v f : ℕ} {w₀ : List ℕ} {n : ℕ} {w : List ℕ} {kept i : ℕ} (
   looked-entered = subst (λ (x : ℕ). Entered v f w₀ x) (sym same-slot) (entered i inside)
 
   pub turn-entered : Entered v f w s
-  turn-entered = entered-kept v f (sifted-order few (before .sifted)) looked-entered
+  turn-entered = entered-moved (order-moved v f (sifted-order few (before .sifted))) looked-entered
 
   looked-current : {b : Bool} → b ≡ isCurrent v f w s → isCurrent v f w₀ s ≡ b
-  looked-current e = sym (e ∙ current-kept v f (sifted-order few (before .sifted)) looked-entered)
+  looked-current e = sym (e ∙ current-same (order-moved v f (sifted-order few (before .sifted))) looked-entered)
 
   -- one more is looked at
   looked : {b : Bool} → isCurrent v f w₀ s ≡ b → (g : ℕ → ℕ) →
@@ -127,7 +129,7 @@ module _ {v f : ℕ} {w : List ℕ} {q : List Float} {n : ℕ} {w' : List ℕ} {
   pub throwing : {w'' : List ℕ} → Sifted v f r w' w'' → HeapFrom 0 v f w'' q r → ThrownOut v f w q n w'' r
   throwing {w''} settled heap =
       let few : r ≤ 3 * f = omega (arith, first .few, queue .few) in
-      let but : But (15 * f + 5 * v) (18 * f + 5 * v) w w'' = but-then (sifted-order (queue .few) (first .sifted)) (sifted-order few settled) in
+      let but : But (orderFrom v f) (keepStampsFrom v f) w w'' = but-then (sifted-order (queue .few) (first .sifted)) (sifted-order few settled) in
       record {
         but = but;
         queue = record {

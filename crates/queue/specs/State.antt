@@ -8,34 +8,17 @@
 --   u32     18F + 5V    3F      keep's stamp, and from 21F + 5V remove's: of each slot
 --   f32     3V          9F      place: of each slot, three parts
 --   f64     10V         3F      cost: of each slot
-use Prim.Native.Nat.{ℕ, _+_, _*_}
+use Prim.Native.Nat.{ℕ}
 use mathlib.Core.List.{List, map}
 use mathlib.Core.Bool.{Bool, _&&_}
 use lib.Dec.{eqb}
-use lib.ListN.{getD}
 use lib.Ieee.{Float}
-use Rattle.geometry.specs.declared.Point.{Point}
 use Rattle.placement.specs.declared.pair.Vertex.{Vertex}
 use Rattle.walk.specs.declared.Pair.{Pair}
 use Rattle.lists.specs.Lists.{those, some, below}
 use Rattle.walk.specs.Walk.{State}
-use Rattle.meaning.specs.Input.{pointAt}
 use Rattle.memory.specs.Points.{meshOf}
-use Rattle.memory.specs.Entries.{pairAt, queued}
-
--- a point's present stamp, and the two stamps of the entry in a slot
-abbrev pub stamp : ℕ → ℕ → List ℕ → ℕ → ℕ
-stamp v f w x = getD w (7 * f + 3 * v + x) 0
-
-abbrev pub keepStamp : ℕ → ℕ → List ℕ → ℕ → ℕ
-keepStamp v f w s = getD w (18 * f + 5 * v + s) 0
-
-abbrev pub removeStamp : ℕ → ℕ → List ℕ → ℕ → ℕ
-removeStamp v f w s = getD w (21 * f + 5 * v + s) 0
-
--- the stored place of the entry in a slot: it stands where that of a point V + s would stand
-abbrev pub entryPlace : ℕ → List Float → ℕ → Point
-entryPlace v p s = pointAt p (v + s)
+use Rattle.memory.specs.Entries.{pairAt, queued, stamp, keepStamp, removeStamp}
 
 -- an entry is current while its stamps are the present ones
 abbrev pub isCurrent : ℕ → ℕ → List ℕ → ℕ → Bool

@@ -14,13 +14,16 @@ ghost use Rattle.queue.specs.State.{isCurrent, openIn};
 ghost use Rattle.queue.specs.Contracts.Queued.{Queue, Named, Entered, Kept};
 ghost use Rattle.queue.specs.Contracts.Pushing.{RoomMade, EntryPut};
 ghost use Rattle.queue.specs.Contracts.Changes.{Emptied, Popped, TookCurrent, CurrentFirst, ThrownOut, Pushed};
+ghost use Rattle.memory.specs.Layout.{costsTo, placesTo, stampsFrom};
 
 mod order;
 
-use geometry::Point;
-use openpairs::keep_at;
-use openpairs::remove_at;
-use order::slot_at;
+use memory::keep_at;
+use memory::remove_at;
+use memory::set_stamp;
+use memory::slot_at;
+use memory::stamp_at;
+use placement::Fold;
 
 // What is taken off: the slot of a current entry and the number of entries left, or nothing where none was current.
 pub enum Taken {
@@ -28,31 +31,23 @@ pub enum Taken {
     Empty,
 }
 
-// A point's stamp.
-pub fn stamp_at(w: &[u32], v: usize, f: usize, x: usize) -> u32
-    requires { ⌜ x < v ⌝ ∗ ⌜ Room v f (now w) ⌝ }
-    ensures { λ r. ⌜ r ≡ stamp v f (now (w .entry)) x ⌝ }
-{
-    w[7 * f + 3 * v + x]
-}
-
 // Makes every entry of a point old.
 pub fn bump(w: &mut [u32], v: usize, f: usize, x: usize)
     requires { ⌜ x < v ⌝ ∗ ⌜ Room v f (now w) ⌝ ∗ ⌜ stamp v f (now w) x + 1 < 2 ^ 32 ⌝ }
-    ensures { λ _. ⌜ now (w .exit) ≡ set (now (w .entry)) (7 * f + 3 * v + x) (stamp v f (now (w .entry)) x + 1) ⌝ }
+    ensures { λ _. ⌜ now (w .exit) ≡ set (now (w .entry)) (stampsFrom v f + x) (stamp v f (now (w .entry)) x + 1) ⌝ }
 {
     let old = stamp_at(w, v, f, x);
-    w[7 * f + 3 * v + x] = old + 1;
+    set_stamp(w, v, f, x, old + 1);
 }
 
 // The queue at the start: every stamp is 0, and every slot is free.
 pub fn empty(w: &mut [u32], q: &[f64], v: usize, f: usize)
-    requires { ⌜ Room v f (now w) ⌝ ∗ ⌜ 10 * v + 3 * f ≤ length (now q) ⌝ }
+    requires { ⌜ Room v f (now w) ⌝ ∗ ⌜ costsTo v f ≤ length (now q) ⌝ }
     ensures { λ _. ⌜ Emptied v f (now (w .entry)) (now (q .entry)) (now (w .exit)) ⌝ }
 {
-    mesh::fill(w, 7 * f + 3 * v, v, 0);
+    lists::fill(w, memory::stamps_from(v, f), v, 0);
     for i in 0..3 * f {
-        w[15 * f + 5 * v + i] = i as u32;
+        memory::set_slot(w, v, f, i, i as u32);
     }
 }
 
@@ -63,8 +58,8 @@ pub fn is_current(w: &[u32], v: usize, f: usize, s: usize) -> bool
 {
     let keep = keep_at(w, v, f, s) as usize;
     let remove = remove_at(w, v, f, s) as usize;
-    (w[18 * f + 5 * v + s] == stamp_at(w, v, f, keep))
-        & (w[21 * f + 5 * v + s] == stamp_at(w, v, f, remove))
+    (memory::keep_stamp_at(w, v, f, s) == stamp_at(w, v, f, keep))
+        & (memory::remove_stamp_at(w, v, f, s) == stamp_at(w, v, f, remove))
 }
 
 // Takes the entry on top off. Says its slot.
@@ -73,7 +68,7 @@ pub fn pop(w: &mut [u32], q: &[f64], v: usize, f: usize, n: usize) -> usize
     ensures { λ r. ⌜ Popped v f (now (w .entry)) (now (q .entry)) n (now (w .exit)) r ⌝ }
 {
     let slot = slot_at(w, v, f, 0);
-    order::swap(w, v, f, 0, n - 1);
+    memory::swap_slots(w, v, f, 0, n - 1);
     order::sift_down(w, q, v, f, 0, n - 1);
     slot
 }
@@ -103,7 +98,7 @@ fn gather_current(w: &mut [u32], v: usize, f: usize, n: usize) -> usize
     for i in 0..n {
         let slot = slot_at(w, v, f, i);
         if is_current(w, v, f, slot) {
-            order::swap(w, v, f, i, kept);
+            memory::swap_slots(w, v, f, i, kept);
             kept += 1;
         }
     }
@@ -139,21 +134,19 @@ fn put_entry(
     v: usize,
     f: usize,
     s: usize,
-    keep: u32,
-    remove: u32,
+    fold: Fold,
     cost: f64,
-    place: Point,
 )
-    requires { ⌜ s < 3 * f ⌝ ∗ ⌜ Room v f (now w) ⌝ ∗ ⌜ 3 * v + 9 * f ≤ length (now p) ⌝ ∗ ⌜ 10 * v + 3 * f ≤ length (now q) ⌝ ∗ ⌜ (keep < v) × (remove < v) ⌝ }
-    ensures { λ _. ⌜ EntryPut v f (now (w .entry)) (now (p .entry)) (now (q .entry)) s keep remove cost place (now (w .exit)) (now (p .exit)) (now (q .exit)) ⌝ }
+    requires { ⌜ s < 3 * f ⌝ ∗ ⌜ Room v f (now w) ⌝ ∗ ⌜ placesTo v f ≤ length (now p) ⌝ ∗ ⌜ costsTo v f ≤ length (now q) ⌝ ∗ ⌜ (fold .keep < v) × (fold .remove < v) ⌝ }
+    ensures { λ _. ⌜ EntryPut v f (now (w .entry)) (now (p .entry)) (now (q .entry)) s (fold .keep) (fold .remove) cost (fold .place) (now (w .exit)) (now (p .exit)) (now (q .exit)) ⌝ }
 {
-    let keeps = stamp_at(w, v, f, keep as usize);
-    let removes = stamp_at(w, v, f, remove as usize);
-    openpairs::push_pair(w, v, f, s, keep, remove);
-    w[18 * f + 5 * v + s] = keeps;
-    w[21 * f + 5 * v + s] = removes;
+    let keeps = stamp_at(w, v, f, fold.keep as usize);
+    let removes = stamp_at(w, v, f, fold.remove as usize);
+    memory::set_pair(w, v, f, s, fold.keep, fold.remove);
+    memory::set_stamps(w, v, f, s, keeps, removes);
+    let place = fold.place;
     memory::set_point(p, v + s, place);
-    q[10 * v + s] = cost;
+    memory::set_cost(q, v, s, cost);
 }
 
 // Puts an entry into the queue, with the present stamps. A full queue throws its old entries out first. Says how many there are.
@@ -164,17 +157,15 @@ pub fn push(
     v: usize,
     f: usize,
     n: usize,
-    keep: u32,
-    remove: u32,
+    fold: Fold,
     cost: f64,
-    place: Point,
 ) -> usize
-    requires { ⌜ Queue v f (now w) (now q) n ⌝ ∗ ⌜ Named v f (now w) n ⌝ ∗ ⌜ 3 * v + 9 * f ≤ length (now p) ⌝ ∗ ⌜ (keep < v) × (remove < v) ⌝ ∗ ⌜ length (openIn v f (now w) n) < 3 * f ⌝ }
-    ensures { λ r. ⌜ Pushed v f (now (w .entry)) (now (p .entry)) (now (q .entry)) n keep remove (now (w .exit)) (now (p .exit)) (now (q .exit)) r ⌝ ∗ ⌜ ((bound : Float) → Kept v f (now (w .entry)) (now (p .entry)) (now (q .entry)) n bound → cost ≡ pairCost bound (vertexAt v f (now (w .entry)) (now (p .entry)) (now (q .entry)) keep) (vertexAt v f (now (w .entry)) (now (p .entry)) (now (q .entry)) remove) → place ≡ pairPlace bound (vertexAt v f (now (w .entry)) (now (p .entry)) (now (q .entry)) keep) (vertexAt v f (now (w .entry)) (now (p .entry)) (now (q .entry)) remove) → Kept v f (now (w .exit)) (now (p .exit)) (now (q .exit)) r bound) ⌝ }
+    requires { ⌜ Queue v f (now w) (now q) n ⌝ ∗ ⌜ Named v f (now w) n ⌝ ∗ ⌜ placesTo v f ≤ length (now p) ⌝ ∗ ⌜ (fold .keep < v) × (fold .remove < v) ⌝ ∗ ⌜ length (openIn v f (now w) n) < 3 * f ⌝ }
+    ensures { λ r. ⌜ Pushed v f (now (w .entry)) (now (p .entry)) (now (q .entry)) n (fold .keep) (fold .remove) (now (w .exit)) (now (p .exit)) (now (q .exit)) r ⌝ ∗ ⌜ ((bound : Float) → Kept v f (now (w .entry)) (now (p .entry)) (now (q .entry)) n bound → cost ≡ pairCost bound (vertexAt v f (now (w .entry)) (now (p .entry)) (now (q .entry)) (fold .keep)) (vertexAt v f (now (w .entry)) (now (p .entry)) (now (q .entry)) (fold .remove)) → fold .place ≡ pairPlace bound (vertexAt v f (now (w .entry)) (now (p .entry)) (now (q .entry)) (fold .keep)) (vertexAt v f (now (w .entry)) (now (p .entry)) (now (q .entry)) (fold .remove)) → Kept v f (now (w .exit)) (now (p .exit)) (now (q .exit)) r bound) ⌝ }
 {
     let count = make_room(w, q, v, f, n);
     let slot = slot_at(w, v, f, count);
-    put_entry(w, p, q, v, f, slot, keep, remove, cost, place);
+    put_entry(w, p, q, v, f, slot, fold, cost);
     order::sift_up(w, q, v, f, count);
     count + 1
 }

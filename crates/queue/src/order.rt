@@ -2,35 +2,30 @@
 ghost use mathlib.Core.Path.{_≡_};
 ghost use Prim.Native.Nat.{_+_, _*_, _≤_, _<_};
 ghost use lib.Dec.{ltb};
-ghost use lib.ListN.{length, set};
+ghost use lib.ListN.{length};
 ghost use Rattle.bits.specs.Order.{floatKey};
 ghost use Rattle.memory.specs.Memory.{Room};
-ghost use Rattle.memory.specs.Entries.{slotAt, costIn};
+ghost use Rattle.memory.specs.Entries.{costIn};
 ghost use Rattle.queue.specs.Contracts.Ranks.{rankIn, rankAt, HeapFrom};
 ghost use Rattle.queue.specs.Contracts.Order.{Slotted, Sifted};
-ghost use Rattle.queue.specs.Contracts.Places.{Stands, firstOf};
-use openpairs::keep_at;
-use openpairs::remove_at;
-
-// The slot in a place of the order.
-pub fn slot_at(w: &[u32], v: usize, f: usize, i: usize) -> usize
-    requires { ⌜ i < 3 * f ⌝ ∗ ⌜ Room v f (now w) ⌝ }
-    ensures { λ r. ⌜ r ≡ slotAt v f (now (w .entry)) i ⌝ }
-{
-    w[15 * f + 5 * v + i] as usize
-}
+ghost use Rattle.queue.specs.Contracts.Places.{Stands, lesserOf};
+ghost use Rattle.memory.specs.Layout.{costsFrom, costsTo};
+use memory::keep_at;
+use memory::remove_at;
+use memory::slot_at;
+use memory::swap_slots;
 
 // The key of the cost of a slot's entry.
 fn key_in(q: &[f64], v: usize, s: usize) -> i64
-    requires { ⌜ 10 * v + s < length (now q) ⌝ }
+    requires { ⌜ costsFrom v + s < length (now q) ⌝ }
     ensures { λ r. ⌜ r ≡ floatKey (costIn v (now (q .entry)) s) ⌝ }
 {
-    bits::order::order(q[10 * v + s])
+    bits::order::order(memory::cost_at(q, v, s))
 }
 
 // Whether the entry in a slot comes before that in another: by cost, then keep, then remove.
 pub fn comes_before(w: &[u32], q: &[f64], v: usize, f: usize, a: usize, b: usize) -> bool
-    requires { ⌜ a < 3 * f ⌝ ∗ ⌜ b < 3 * f ⌝ ∗ ⌜ Room v f (now w) ⌝ ∗ ⌜ 10 * v + 3 * f ≤ length (now q) ⌝ }
+    requires { ⌜ a < 3 * f ⌝ ∗ ⌜ b < 3 * f ⌝ ∗ ⌜ Room v f (now w) ⌝ ∗ ⌜ costsTo v f ≤ length (now q) ⌝ }
     ensures { λ r. ⌜ r ≡ ltb (rankIn v f (now (w .entry)) (now (q .entry)) a) (rankIn v f (now (w .entry)) (now (q .entry)) b) ⌝ }
 {
     let a_key = key_in(q, v, a);
@@ -52,21 +47,9 @@ pub fn comes_before(w: &[u32], q: &[f64], v: usize, f: usize, a: usize, b: usize
     remove_at(w, v, f, a) < remove_at(w, v, f, b)
 }
 
-// Exchanges the slots in two places.
-pub fn swap(w: &mut [u32], v: usize, f: usize, i: usize, j: usize)
-    requires { ⌜ i < 3 * f ⌝ ∗ ⌜ j < 3 * f ⌝ ∗ ⌜ Room v f (now w) ⌝ }
-    ensures { λ _. ⌜ now (w .exit) ≡ set (set (now (w .entry)) (15 * f + 5 * v + i) (slotAt v f (now (w .entry)) j)) (15 * f + 5 * v + j) (slotAt v f (now (w .entry)) i) ⌝ }
-{
-    let from = 15 * f + 5 * v;
-    let first = w[from + i];
-    let second = w[from + j];
-    w[from + i] = second;
-    w[from + j] = first;
-}
-
 // Whether the entry in a place comes before that in another.
 fn place_before(w: &[u32], q: &[f64], v: usize, f: usize, i: usize, j: usize) -> bool
-    requires { ⌜ Room v f (now w) ⌝ ∗ ⌜ 10 * v + 3 * f ≤ length (now q) ⌝ }
+    requires { ⌜ Room v f (now w) ⌝ ∗ ⌜ costsTo v f ≤ length (now q) ⌝ }
     requires { ⌜ Stands v f (now w) i ⌝ ∗ ⌜ Stands v f (now w) j ⌝ }
     ensures { λ r. ⌜ r ≡ ltb (rankAt v f (now (w .entry)) (now (q .entry)) i) (rankAt v f (now (w .entry)) (now (q .entry)) j) ⌝ }
 {
@@ -84,15 +67,15 @@ pub fn sift_up(w: &mut [u32], q: &[f64], v: usize, f: usize, i: usize)
         if !place_before(w, q, v, f, at, over) {
             return;
         }
-        swap(w, v, f, at, over);
+        swap_slots(w, v, f, at, over);
         at = over;
     }
 }
 
 // Of two places the one whose entry comes first, and the first of them where the second is not among the n.
-fn first_of(w: &[u32], q: &[f64], v: usize, f: usize, n: usize, i: usize, j: usize) -> usize
+fn lesser_of(w: &[u32], q: &[f64], v: usize, f: usize, n: usize, i: usize, j: usize) -> usize
     requires { ⌜ Slotted v f (now w) (now q) n ⌝ ∗ ⌜ i < n ⌝ }
-    ensures { λ r. ⌜ r ≡ firstOf (rankAt v f (now (w .entry)) (now (q .entry))) n i j ⌝ }
+    ensures { λ r. ⌜ r ≡ lesserOf (rankAt v f (now (w .entry)) (now (q .entry))) n i j ⌝ }
 {
     if j < n {
         if place_before(w, q, v, f, j, i) {
@@ -109,12 +92,12 @@ pub fn sift_down(w: &mut [u32], q: &[f64], v: usize, f: usize, lo: usize, n: usi
 {
     let mut at = lo;
     while at < n {
-        let left = first_of(w, q, v, f, n, at, 2 * at + 1);
-        let first = first_of(w, q, v, f, n, left, 2 * at + 2);
+        let left = lesser_of(w, q, v, f, n, at, 2 * at + 1);
+        let first = lesser_of(w, q, v, f, n, left, 2 * at + 2);
         if first == at {
             return;
         }
-        swap(w, v, f, at, first);
+        swap_slots(w, v, f, at, first);
         at = first;
     }
 }

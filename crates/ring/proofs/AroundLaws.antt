@@ -14,23 +14,23 @@ use Rattle.walk.specs.declared.Face.{Face}
 use Rattle.lists.specs.Lists.{every, stretch}
 use Rattle.walk.specs.Faces.{shared}
 use Rattle.lists.proofs.TestLaws.{by-test}
-use Rattle.lists.proofs.SumLaws.{every-implies}
-use Rattle.memory.specs.Memory.{liveFaces, mark, Room, Unmarked}
+use Rattle.lists.proofs.EveryLaws.{every-implies}
+use Rattle.memory.specs.Memory.{liveFaces, mark, Room, Unmarked, liveAt}
 use Rattle.lists.specs.Frames.{But}
 use Rattle.mesh.specs.Contracts.Chains.{Tidy}
 use Rattle.mesh.specs.Contracts.Around.{Collected, Marked, Cleared}
-use Rattle.memory.specs.Memory.{liveAt}
-use Rattle.ring.specs.Contracts.Marking.{Listed, Around, Remarked, heldIn}
+use Rattle.ring.specs.Contracts.Marking.{FacesListed, Around, Remarked, heldIn}
 use Rattle.lists.proofs.FrameLaws.{but-then}
 use Rattle.mesh.proofs.TidyLaws.{tidy-but}
 use Rattle.mesh.proofs.AroundLaws.{live-faces-but}
 use Rattle.ring.proofs.SlotLaws.{around-but, around-listed, listed-but}
 use Rattle.ring.proofs.LiveLaws.{count-gathered, some-gathered}
 use Rattle.ring.proofs.MarkLaws.{remarked-same}
+use Rattle.memory.specs.Layout.{marksFrom, nearFrom, stampsFrom}
 
 -- ---- gathered
 
-module _ {v f : ℕ} {w : List ℕ} {x base : ℕ} {w₁ : List ℕ} {n : ℕ} (above : 13 * f + 4 * v ≤ base)
+module _ {v f : ℕ} {w : List ℕ} {x base : ℕ} {w₁ : List ℕ} {n : ℕ} (above : nearFrom v f ≤ base)
     (h : Collected v f w x base w₁ n) where
   pub collected-tidy : Tidy v f w → Tidy v f w₁
   collected-tidy = tidy-but (omega arith) (h .but)
@@ -40,7 +40,7 @@ module _ {v f : ℕ} {w : List ℕ} {x base : ℕ} {w₁ : List ℕ} {n : ℕ} (
 
 -- the faces around two points, gathered one after the other
 pub both-around : {v f : ℕ} {w : List ℕ} {x y near far : ℕ} {w₁ w₂ : List ℕ} {n m : ℕ} →
-    13 * f + 4 * v ≤ near → near + f ≤ far → far + f ≤ length w → Collected v f w x near w₁ n → Collected v f w₁ y far w₂ m →
+    nearFrom v f ≤ near → near + f ≤ far → far + f ≤ length w → Collected v f w x near w₁ n → Collected v f w₁ y far w₂ m →
     Around v f w₂ x near n × Around v f w₂ y far m
 both-around {v} {f} {w} {x} {y} {near} {far} {w₁} {w₂} {n} {m} above apart within p q = (
   around-but f (q .but) (omega arith) near n (inr (omega (arith, p .gathered .few))) (collected-around above p (omega arith)),
@@ -50,10 +50,10 @@ both-around {v} {f} {w} {x} {y} {near} {far} {w₁} {w₂} {n} {m} above apart w
 -- ---- what is asked of a list by those that mark its faces, that look at it later, and that count
 
 module _ {v f : ℕ} {w : List ℕ} {x base n : ℕ} (t : Tidy v f w) (a : Around v f w x base n) where
-  pub may-mark : Room v f w × (Unmarked v f w × (Listed v f w base n × (n ≤ f)))
+  pub may-mark : Room v f w × (Unmarked v f w × (FacesListed v f w base n × (n ≤ f)))
   may-mark = (t .room, (t .unmarked, (around-listed (t .faces-proper) a, a .gathered .few)))
 
-  pub may-look : {w₁ : List ℕ} → But (7 * f + 2 * v) (7 * f + 3 * v) w w₁ → Room v f w₁ × Listed v f w₁ base n
+  pub may-look : {w₁ : List ℕ} → But (marksFrom v f) (stampsFrom v f) w w₁ → Room v f w₁ × FacesListed v f w₁ base n
   may-look but = (
     omega (arith, t .room, but .same-length),
     listed-but f but (omega arith) base n (inl (omega (arith, a .above))) (around-listed (t .faces-proper) a),
@@ -70,13 +70,19 @@ module _ {v f : ℕ} {w : List ℕ} {x base n : ℕ} (t : Tidy v f w) (a : Aroun
   )
 
 -- the same of a list that has just been gathered
-module _ {v f : ℕ} {w : List ℕ} {x base : ℕ} {w₁ : List ℕ} {n : ℕ} (t : Tidy v f w) (above : 13 * f + 4 * v ≤ base)
-    (within : base + f ≤ length w) (h : Collected v f w x base w₁ n) where
-  pub gathered-marks : Room v f w₁ × (Unmarked v f w₁ × (Listed v f w₁ base n × (n ≤ f)))
-  gathered-marks = may-mark (collected-tidy above h t) (collected-around above h within)
+module _ {v f : ℕ} {w : List ℕ} {x base : ℕ} {w₁ : List ℕ} {n : ℕ} (t : Tidy v f w) (here : base ≡ nearFrom v f)
+    (h : Collected v f w x base w₁ n) where
+  pub gathered-tidy : Tidy v f w₁
+  gathered-tidy = collected-tidy (omega arith) h t
 
-  pub gathered-looks : {w₂ : List ℕ} → Marked v f w₁ base n w₂ → Room v f w₂ × Listed v f w₂ base n
-  gathered-looks m = may-look (collected-tidy above h t) (collected-around above h within) (m .but)
+  pub gathered-around : Around v f w₁ x base n
+  gathered-around = collected-around (omega arith) h (omega (arith, t .room .long))
+
+  pub gathered-marks : Room v f w₁ × (Unmarked v f w₁ × (FacesListed v f w₁ base n × (n ≤ f)))
+  gathered-marks = may-mark gathered-tidy gathered-around
+
+  pub gathered-looks : {w₂ : List ℕ} → Marked v f w₁ base n w₂ → Room v f w₂ × FacesListed v f w₂ base n
+  gathered-looks m = may-look gathered-tidy gathered-around (m .but)
 
 -- ---- marked
 

@@ -1,32 +1,32 @@
 -- The marks of the faces around a point count its shared faces, so a single mark tells a border point.
 -- Assumes nothing.
-use Prim.Native.Nat.{ℕ, _+_, _*_, _≤_, _<_}
+use Prim.Native.Nat.{ℕ, _<_}
 use native.Mathlib.Omega.{arith}
 use mathlib.Core.Path.{_≡_, refl, sym, ap, _∙_}
 use mathlib.Core.List.{List}
 use mathlib.Core.Bool.{Bool, true, false, not, _&&_, _||_}
 use mathlib.Mathlib.Data.Bool.Basic.{and-elim-left, and-elim-right, or-inl, or-inr}
 use lib.Dec.{ltb, eqb}
-use lib.ListN.{length}
 use borrow.Author.Tests.{eqb-true, ltb-true, lt-ltb}
 use Rattle.walk.specs.declared.Face.{Face}
 use Rattle.lists.specs.Lists.{some, below, stretch}
 use Rattle.walk.specs.Faces.{holds, shared, borderEdge, borderPoint, faceAt}
-use Rattle.lists.proofs.TestLaws.{by-test}
-use Rattle.lists.proofs.SumLaws.{some-from, every-some, length-below, getD-below}
-use Rattle.memory.specs.Memory.{lives, liveFaces, mark, Proper}
+use Rattle.lists.proofs.TestLaws.{by-test, same-test}
+use Rattle.lists.proofs.EveryLaws.{some-from, every-some, some-implies}
+use Rattle.lists.proofs.BelowLaws.{length-below, getD-below, all-below}
+use Rattle.memory.specs.Memory.{lives, liveFaces, mark, Proper, liveAt}
 use Rattle.lists.specs.Frames.{But}
 use Rattle.mesh.specs.Contracts.Chains.{Tidy}
 use Rattle.mesh.specs.Contracts.Around.{Gathered, Collected, Marked, Cleared}
-use Rattle.memory.specs.Memory.{liveAt}
 use Rattle.ring.specs.Contracts.Marking.{Around, single, somePoint}
-use Rattle.lists.proofs.CountLaws.{same-test, some-implies, all-below}
+use Rattle.lists.proofs.FrameLaws.{but-widen}
 use Rattle.mesh.proofs.FaceCorners.{Points, points}
 use Rattle.mesh.proofs.AroundLaws.{live-faces-but}
 use Rattle.ring.proofs.SlotLaws.{proper-but}
 use Rattle.ring.proofs.LiveLaws.{some-gathered}
 use Rattle.ring.proofs.MarkLaws.{remarked-none}
-use Rattle.ring.proofs.AroundLaws.{collected-tidy, collected-around, marks-shared, around-marked, cleared-back}
+use Rattle.ring.proofs.AroundLaws.{gathered-tidy, gathered-around, marks-shared, around-marked, cleared-back}
+use Rattle.memory.specs.Layout.{farFrom, nearFrom}
 
 -- ---- a point of a face
 
@@ -103,12 +103,12 @@ border-marked {v} {f} {w} {w₁} {x} {base} {n} t a m =
 
 -- gathered, marked, looked at, cleared
 pub border-known : {v f : ℕ} {w w₁ w₂ w₃ : List ℕ} {x base n : ℕ} {r : Bool} → Tidy v f w →
-    13 * f + 4 * v ≤ base → base + f ≤ length w → Collected v f w x base w₁ n → Marked v f w₁ base n w₂ →
+    base ≡ nearFrom v f → Collected v f w x base w₁ n → Marked v f w₁ base n w₂ →
     r ≡ some (λ k. somePoint (single v f w₂ x) (faceAt w₂ k)) (stretch w₂ base n) → Cleared v f w₂ base n w₃ →
-    (r ≡ borderPoint v (liveFaces f w) x) × But base (base + f) w w₃
-border-known {v} {f} {w} {w₁} {w₂} {w₃} {x} {base} {n} t above within h m answer cleared =
-    let t₁ : Tidy v f w₁ = collected-tidy above h t in
-    let a : Around v f w₁ x base n = collected-around above h within in (
+    (r ≡ borderPoint v (liveFaces f w) x) × But (nearFrom v f) (farFrom v f) w w₃
+border-known {v} {f} {w} {w₁} {w₂} {w₃} {x} {base} {n} t here h m answer cleared =
+    let t₁ : Tidy v f w₁ = gathered-tidy t here h in
+    let a : Around v f w₁ x base n = gathered-around t here h in (
       answer ∙ border-marked t₁ a m ∙ ap (λ (faces : List Face). borderPoint v faces x) (live-faces-but f (h .but) (omega arith)),
-      rw (cleared-back t₁ a m (remarked-none w₂) (λ u. refl) cleared) (h .but),
+      rw (cleared-back t₁ a m (remarked-none w₂) (λ u. refl) cleared) (but-widen (omega arith) (omega arith) (h .but)),
     )

@@ -13,14 +13,14 @@ use Rattle.walk.specs.declared.Face.{Face}
 use Rattle.lists.specs.Lists.{some, below}
 use Rattle.walk.specs.Faces.{holds, shared, neighbour, common, faceAt}
 use Rattle.lists.proofs.TestLaws.{by-test}
-use Rattle.lists.proofs.SumLaws.{sum-add, sum-pick, length-below}
+use Rattle.lists.proofs.SumLaws.{sum-add}
+use Rattle.lists.proofs.BelowLaws.{sum-pick, length-below, sum-same-below}
 use Rattle.memory.specs.Memory.{liveFaces, mark}
 use Rattle.mesh.specs.Contracts.Chains.{Tidy}
 use Rattle.mesh.specs.Contracts.Around.{Marked, Cleared}
 use Rattle.ring.specs.Contracts.Marking.{Around, Remarked, heldIn}
 use Rattle.ring.specs.Contracts.Counting.{other, marked, Counted}
-use Rattle.lists.proofs.CountLaws.{count-most}
-use Rattle.lists.proofs.BelowSums.{sum-same-below}
+use Rattle.lists.proofs.EveryLaws.{count-most}
 use Rattle.mesh.proofs.AroundLaws.{live-faces-but}
 use Rattle.ring.proofs.SlotLaws.{around-but}
 use Rattle.ring.proofs.LiveLaws.{some-gathered}

@@ -1,6 +1,6 @@
 -- The loop that gives each point its kind.
 -- Assumes nothing.
-use Prim.Native.Nat.{ℕ, _+_, _*_, _≤_, _<_}
+use Prim.Native.Nat.{ℕ, _+_, _≤_, _<_}
 use native.Mathlib.Nat.{le-antisymm}
 use native.Mathlib.Numerals.{add-one}
 use native.Mathlib.Omega.{arith}
@@ -13,15 +13,17 @@ use borrow.Author.Count.{below-none, below-more}
 use Rattle.walk.specs.declared.Face.{Face}
 use Rattle.lists.specs.Lists.{sum, count, below}
 use Rattle.walk.specs.Faces.{borderPoint, borderCount}
-use Rattle.lists.proofs.SumLaws.{sum-zero, sum-below, length-below}
+use Rattle.lists.proofs.SumLaws.{sum-zero}
+use Rattle.lists.proofs.BelowLaws.{sum-below, length-below}
 use Rattle.memory.specs.Memory.{liveFaces, kind}
 use Rattle.lists.specs.Frames.{But}
 use Rattle.mesh.specs.Contracts.Chains.{Tidy}
 use Rattle.mesh.specs.Contracts.Laid.{Bordered}
-use Rattle.lists.proofs.CountLaws.{count-most}
+use Rattle.lists.proofs.EveryLaws.{count-most}
 use Rattle.lists.proofs.FrameLaws.{but-refl, but-then, but-widen, but-set}
 use Rattle.mesh.proofs.TidyLaws.{tidy-but, tidy-again}
 use Rattle.mesh.proofs.AroundLaws.{live-faces-but}
+use Rattle.memory.specs.Layout.{farFrom, kindsFrom, marksFrom, nearFrom}
 
 -- whether a point is a border point that is preserved
 abbrev pub kept : ℕ → ℕ → Bool → List ℕ → ℕ → Bool
@@ -30,7 +32,7 @@ kept v f preserve w x = preserve && borderPoint v (liveFaces f w) x
 -- The points below x have their kinds, and n of them are kept.
 pub record Kinds (v f : ℕ) (preserve : Bool) (w₀ w : List ℕ) (n x : ℕ) : Type 0 where
   pub most : x ≤ v
-  pub but : But (7 * f + v) (14 * f + 4 * v) w₀ w
+  pub but : But (kindsFrom v f) (farFrom v f) w₀ w
   pub tidy : Tidy v f w
   pub kinds : (y : ℕ) → y < x → kind v f w y ≡ cond (kept v f preserve w₀ y) 1 0
   pub counted : n ≡ count (kept v f preserve w₀) (below x)
@@ -39,7 +41,7 @@ pub kinds-none : {v f : ℕ} (preserve : Bool) {w : List ℕ} → Tidy v f w →
 unfolding sum below
 kinds-none {v} {f} preserve {w} t = record {
   most = omega arith;
-  but = but-refl (7 * f + v) (14 * f + 4 * v) w;
+  but = but-refl (kindsFrom v f) (farFrom v f) w;
   tidy = t;
   kinds = below-none (λ y. kind v f w y ≡ cond (kept v f preserve w y) 1 0);
   counted = refl;
@@ -59,21 +61,21 @@ module _ {v f : ℕ} {preserve : Bool} {w₀ w : List ℕ} {n x : ℕ} (h : Kind
 
   -- one more point
   module _ {w₁ : List ℕ} {k : ℕ} (l : x < v) (answer : k ≡ cond (kept v f preserve w x) 1 0)
-      (but₁ : But (13 * f + 4 * v) (14 * f + 4 * v) w w₁) where
-    but₂ : But (7 * f + v) (7 * f + 2 * v) w₁ (set w₁ (7 * f + v + x) k)
-    but₂ = but-set (7 * f + v) (7 * f + 2 * v) w₁ (7 * f + v + x) k (omega arith) (omega arith)
+      (but₁ : But (nearFrom v f) (farFrom v f) w w₁) where
+    but₂ : But (kindsFrom v f) (marksFrom v f) w₁ (set w₁ (kindsFrom v f + x) k)
+    but₂ = but-set (kindsFrom v f) (marksFrom v f) w₁ (kindsFrom v f + x) k (omega arith) (omega arith)
 
     is-kept : k ≡ cond (kept v f preserve w₀ x) 1 0
     is-kept =
         answer
         ∙ ap (λ (faces : List Face). cond (preserve && borderPoint v faces x) 1 0) (live-faces-but f (h .but) (omega arith))
 
-    tidy₂ : Tidy v f (set w₁ (7 * f + v + x) k)
+    tidy₂ : Tidy v f (set w₁ (kindsFrom v f + x) k)
     tidy₂ =
         let t : Tidy v f w₁ = tidy-but (omega arith) but₁ (h .tidy) in
-        tidy-again (omega arith) but₂ (λ u m. but₂ .over (7 * f + 2 * v + u) (omega arith) ∙ t .unmarked u m) t
+        tidy-again (omega arith) but₂ (λ u m. but₂ .over (marksFrom v f + u) (omega arith) ∙ t .unmarked u m) t
 
-    pub kinds-more : {w₂ : List ℕ} → w₂ ≡ set w₁ (7 * f + v + x) k → Kinds v f preserve w₀ w₂ (n + k) (x + 1)
+    pub kinds-more : {w₂ : List ℕ} → w₂ ≡ set w₁ (kindsFrom v f + x) k → Kinds v f preserve w₀ w₂ (n + k) (x + 1)
     kinds-more wrote =
         rw wrote
         record {
@@ -81,12 +83,12 @@ module _ {v f : ℕ} {preserve : Bool} {w₀ w : List ℕ} {n x : ℕ} (h : Kind
           but = but-then (h .but) (but-then (but-widen (omega arith) (omega arith) but₁) (but-widen (omega arith) (omega arith) but₂));
           tidy = tidy₂;
           kinds =
-              below-more (λ y. kind v f (set w₁ (7 * f + v + x) k) y ≡ cond (kept v f preserve w₀ y) 1 0) x
+              below-more (λ y. kind v f (set w₁ (kindsFrom v f + x) k) y ≡ cond (kept v f preserve w₀ y) 1 0) x
               (λ y m.
-              getD-set-other w₁ (7 * f + v + x) (7 * f + v + y) k 0 (omega arith)
-              ∙ but₁ .under (7 * f + v + y) (omega arith)
+              getD-set-other w₁ (kindsFrom v f + x) (kindsFrom v f + y) k 0 (omega arith)
+              ∙ but₁ .under (kindsFrom v f + y) (omega arith)
               ∙ h .kinds y m)
-              (getD-set-same w₁ (7 * f + v + x) k 0 (omega (arith, h .tidy .room, but₁ .same-length)) ∙ is-kept);
+              (getD-set-same w₁ (kindsFrom v f + x) k 0 (omega (arith, h .tidy .room, but₁ .same-length)) ∙ is-kept);
           counted = rw add-one (omega (arith, h .counted, is-kept, sum-below (λ y. cond (kept v f preserve w₀ y) 1 0) x));
         }
 

@@ -12,3 +12,4 @@ pub mod WantedLaws
 pub mod TakeLaws
 pub mod NearLaws
 pub mod ListedLaws
+pub mod RingLaws

@@ -1,34 +1,34 @@
 -- The points that are listed around a point are those that the definition names: the gathered faces ask for just these, and no mark is left.
 -- Assumes nothing.
-use Prim.Native.Nat.{ℕ, zero, suc, _+_, _-_, _*_, _≤_, _<_}
+use Prim.Native.Nat.{ℕ, zero, suc, _+_, _-_, _≤_, _<_}
 use native.Mathlib.Numerals.{add-one}
 use native.Mathlib.Omega.{arith}
-use mathlib.Core.Path.{_≡_, refl, sym, ap, ap₂, _∙_}
-use mathlib.Core.List.{List, [], _∷_}
-use mathlib.Core.Bool.{Bool, true, false, not, _&&_, _||_, cond, false≢true}
-use mathlib.Mathlib.Data.Bool.Basic.{or-inl, or-inr}
+use mathlib.Core.Path.{_≡_, refl, sym, subst, ap, ap₂, _∙_}
+use mathlib.Core.List.{List}
+use mathlib.Core.Bool.{Bool, true, false, not, _&&_, _||_, cond}
 use lib.Dec.{ltb, eqb}
 use lib.ListN.{getD}
 use borrow.Author.Tests.{ltb-true, ltb-false, lt-ltb}
 use Rattle.walk.specs.declared.Face.{Face}
-use Rattle.lists.specs.Lists.{sum, those, some, below, stretch}
+use Rattle.lists.specs.Lists.{sum, those, below, stretch}
 use Rattle.walk.specs.Faces.{holds, proper, faceAt}
+use Rattle.lists.proofs.EveryLaws.{some-implies, every-counted}
 use Rattle.lists.proofs.TestLaws.{by-test, clash, left-of, false-of}
 use Rattle.lists.proofs.SumLaws.{sum-those, sum-length}
 use Rattle.memory.specs.Memory.{liveFaces, mark, Room, Unmarked, aroundIn}
 use Rattle.mesh.specs.Contracts.Chains.{Tidy}
 use Rattle.mesh.specs.Contracts.Around.{Collected}
-use Rattle.lists.proofs.BelowSums.{sum-same-below, sum-none, count-most, every-counted}
-use Rattle.lists.proofs.BelowLaws.{every-at}
+use Rattle.lists.proofs.BelowLaws.{sum-same-below, sum-none, count-below-most, every-each}
 use Rattle.memory.proofs.FrameLaws.{lives-but, face-but}
 use Rattle.mesh.proofs.AroundLaws.{live-faces-but}
-use Rattle.ring.specs.Contracts.Listing.{isAround, Listed}
+use Rattle.ring.specs.Contracts.Listing.{isAround, AroundListed}
 use Rattle.ring.specs.Contracts.Wanting.{Near, found, wanted, Marks}
 use Rattle.ring.specs.Contracts.Taking.{marked, Framed, Taken, Ready}
 use Rattle.ring.proofs.FrameLaws.{framed-then, framed-marks, framed-list, framed-room, face-listed}
 use Rattle.ring.proofs.WantedLaws.{found-none, found-next}
 use Rattle.ring.proofs.TakeLaws.{counted, marked-sum, listed-none, listed-count}
 use Rattle.ring.proofs.NearLaws.{some-around, near-gathered, wanted-around}
+use Rattle.memory.specs.Layout.{aroundFrom, marksFrom, nearFrom, stampsFrom}
 
 -- what a face around x asks of u
 abbrev asked : Bool → ℕ → ℕ → Face → Bool
@@ -45,14 +45,6 @@ found-framed {v} {f} {w} {w'} frame (suc n) few near test =
     ∙ ap₂ _||_ (found-framed frame n (omega arith) (λ i l. near i (omega arith)) test) (ap test (face-listed frame few near n (omega arith)))
     ∙ sym (found-next v f w n test))
 
-some-implies : {A : Type 0} (test other : A → Bool) → ((a : A) → test a ≡ true → other a ≡ true) → (xs : List A) → some test xs ≡ true → some other xs ≡ true
-unfolding some
-some-implies test other implies [] h = absurd (false≢true h)
-some-implies test other implies (a ∷ xs) h =
-    by-test (test a)
-    (λ e. or-inl (other a) (some other xs) (implies a e))
-    (λ e. or-inr (other a) (some other xs) (some-implies test other implies xs (rw e at h)))
-
 -- a mark that is set is not 0
 marked-flag : (b : Bool) → not (eqb (cond b 1 0) 0) ≡ b
 marked-flag true = refl
@@ -60,7 +52,11 @@ marked-flag false = refl
 
 -- ---- from one memory to the next
 
-module _ {v f : ℕ} {w₀ w₁ : List ℕ} {x count : ℕ} (tidy : Tidy v f w₀) (collected : Collected v f w₀ x (13 * f + 4 * v) w₁ count) where
+-- where the faces are gathered may be said otherwise
+pub collected-from : {v f : ℕ} {w w' : List ℕ} {x at base n : ℕ} → at ≡ base → Collected v f w x at w' n → Collected v f w x base w' n
+collected-from {v} {f} {w} {w'} {x} {n = n} same = subst (λ (k : ℕ). Collected v f w x k w' n) same
+
+module _ {v f : ℕ} {w₀ w₁ : List ℕ} {x count : ℕ} (tidy : Tidy v f w₀) (collected : Collected v f w₀ x (nearFrom v f) w₁ count) where
   -- the faces are gathered: sizes, marks and the mesh are as they were
   pub gathered-room : Room v f w₁
   gathered-room = record {
@@ -76,7 +72,7 @@ module _ {v f : ℕ} {w₀ w₁ : List ℕ} {x count : ℕ} (tidy : Tidy v f w�
       (collected .gathered)
 
   gathered-unmarked : Unmarked v f w₁
-  gathered-unmarked u l = collected .but .under (7 * f + 2 * v + u) (omega arith) ∙ tidy .unmarked u l
+  gathered-unmarked u l = collected .but .under (marksFrom v f + u) (omega arith) ∙ tidy .unmarked u l
 
   module _ (rising : Bool) {w₂ : List ℕ} (was-marked : Marks v f (λ u. found v f w₁ count (asked rising x u)) w₁ w₂) where
     -- the points are marked: those that the faces ask for
@@ -90,7 +86,7 @@ module _ {v f : ℕ} {w₀ w₁ : List ℕ} {x count : ℕ} (tidy : Tidy v f w�
     none-asked : (u : ℕ) → found v f w₁ count (holds u) ≡ false → found v f w₁ count (asked rising x u) ≡ false
     none-asked u none =
         false-of (found v f w₁ count (asked rising x u))
-        (λ t. clash (some-implies _ _ (λ k e. left-of (holds u (faceAt w₁ k)) (wanted rising x u (faceAt w₁ k)) e) (stretch w₁ (13 * f + 4 * v) count) t) none)
+        (λ t. clash (some-implies _ _ (λ k e. left-of (holds u (faceAt w₁ k)) (wanted rising x u (faceAt w₁ k)) e) (stretch w₁ (nearFrom v f) count) t) none)
 
     -- these are the points around x
     marked-around : (g : ℕ → ℕ) → sum g (marked v f w₂) ≡ sum g (those (isAround rising (liveFaces f w₀) x) (below v))
@@ -115,7 +111,7 @@ module _ {v f : ℕ} {w₀ w₁ : List ℕ} {x count : ℕ} (tidy : Tidy v f w�
           enough = omega (
             arith,
             marked-sum v f w₂ (λ u. 1),
-            count-most (λ u. not (eqb (mark v f w₂ u) 0)) v,
+            count-below-most (λ u. not (eqb (mark v f w₂ u) 0)) v,
             sum-length (marked v f w₂),
           );
         }
@@ -135,21 +131,21 @@ module _ {v f : ℕ} {w₀ w₁ : List ℕ} {x count : ℕ} (tidy : Tidy v f w�
       none-marked g = marked-sum v f w₃ g ∙ sum-none (counted v f w₃ g) v (λ u l. rw (none-left u l))
 
       -- so every cell below the gathered faces is as it was
-      same-under : (i : ℕ) → i < 13 * f + 4 * v → getD w₃ i 0 ≡ getD w₀ i 0
+      same-under : (i : ℕ) → i < nearFrom v f → getD w₃ i 0 ≡ getD w₀ i 0
       same-under i l =
           let frame = framed-then (framed-marks (was-marked .but)) (done .frame) in
-          let u = i - (7 * f + 2 * v) in
-          by-test (ltb i (7 * f + 2 * v))
+          let u = i - (marksFrom v f) in
+          by-test (ltb i (marksFrom v f))
           (λ t. frame .under i (ltb-true _ _ t) ∙ collected .but .under i l)
-          (λ above. by-test (ltb i (7 * f + 3 * v))
+          (λ above. by-test (ltb i (stampsFrom v f))
           (λ t.
-          let low = ltb-false i (7 * f + 2 * v) above in
-          let high = ltb-true i (7 * f + 3 * v) t in
-          let here : 7 * f + 2 * v + u ≡ i = omega arith in
+          let low = ltb-false i (marksFrom v f) above in
+          let high = ltb-true i (stampsFrom v f) t in
+          let here : marksFrom v f + u ≡ i = omega arith in
           rw here at (none-left u (omega arith) ∙ sym (tidy .unmarked u (omega arith))))
           (λ t. frame .between i (ltb-false _ _ t) (omega arith) ∙ collected .but .under i l))
 
-      pub listed-all : Listed v f w₀ rising x w₃ n
+      pub listed-all : AroundListed v f w₀ rising x w₃ n
       listed-all =
           let frame = framed-then (framed-marks (was-marked .but)) (done .frame) in
           record {
@@ -163,19 +159,19 @@ module _ {v f : ℕ} {w₀ w₁ : List ℕ} {x count : ℕ} (tidy : Tidy v f w�
 
 -- ---- what the sums say of the list
 
-module _ {v f : ℕ} {w w' : List ℕ} {rising : Bool} {x n : ℕ} (done : Listed v f w rising x w' n) where
+module _ {v f : ℕ} {w w' : List ℕ} {rising : Bool} {x n : ℕ} (done : AroundListed v f w rising x w' n) where
   -- it is no longer than there are points
   pub listed-few : n ≤ v
   listed-few =
       let test = isAround rising (liveFaces f w) x in
-      omega (arith, listed-count v f w' n, done .sums (λ u. 1), sum-those (λ u. 1) test (below v), count-most test v)
+      omega (arith, listed-count v f w' n, done .sums (λ u. 1), sum-those (λ u. 1) test (below v), count-below-most test v)
 
   -- and each of it is one of them
-  pub listed-within : (i : ℕ) → i < n → getD w' (15 * f + 4 * v + i) 0 < v
+  pub listed-within : (i : ℕ) → i < n → getD w' (aroundFrom v f + i) 0 < v
   listed-within i l =
       let test = isAround rising (liveFaces f w) x in
       let none : sum (λ u. cond (ltb u v) 0 1) (aroundIn v f w' n) ≡ 0 =
       done .sums (λ u. cond (ltb u v) 0 1)
       ∙ sum-those (λ u. cond (ltb u v) 0 1) test (below v)
       ∙ sum-none _ v (λ u m. rw (lt-ltb u v m) (by-test (test u) (λ e. rw e) (λ e. rw e))) in
-      ltb-true _ v (every-at (λ u. ltb u v) (λ i. getD w' (15 * f + 4 * v + i) 0) n (every-counted (λ u. ltb u v) (aroundIn v f w' n) none) i l)
+      ltb-true _ v (every-each (λ u. ltb u v) (λ i. getD w' (aroundFrom v f + i) 0) n (every-counted (λ u. ltb u v) (aroundIn v f w' n) none) i l)

@@ -8,7 +8,8 @@ use lib.Dec.{ltb, eqb}
 use Rattle.walk.specs.declared.Face.{Face}
 use Rattle.lists.specs.Lists.{count, some, every, below, stretch}
 use Rattle.walk.specs.Faces.{holds, both, shared, faceAt}
-use Rattle.lists.proofs.SumLaws.{sum-same, some-count, every-count}
+use Rattle.lists.proofs.SumLaws.{sum-same}
+use Rattle.lists.proofs.EveryLaws.{some-count, every-count}
 use Rattle.memory.specs.Memory.{lives, liveFaces}
 use Rattle.mesh.specs.Contracts.Around.{Gathered}
 use Rattle.lists.proofs.CondLaws.{cond-and}

@@ -1,6 +1,6 @@
 -- Rules by which marks change: one after another, at one point, and at the points of a face.
 -- Assumes nothing.
-use Prim.Native.Nat.{ℕ, _+_, _-_, _*_, _≤_, _<_}
+use Prim.Native.Nat.{ℕ, _+_, _-_, _≤_, _<_}
 use native.Mathlib.Nat.{add-zero}
 use native.Mathlib.Omega.{arith}
 use mathlib.Core.Path.{_≡_, refl, sym, ap, subst, _∙_}
@@ -16,17 +16,17 @@ use Rattle.walk.specs.Faces.{holds, proper}
 use Rattle.lists.proofs.TestLaws.{by-test, flag-le}
 use Rattle.memory.specs.Memory.{mark, Room}
 use Rattle.ring.specs.Contracts.Marking.{Remarked}
-use Rattle.lists.proofs.CountLaws.{cond-either}
-use Rattle.lists.proofs.CondLaws.{cond-three}
+use Rattle.lists.proofs.CondLaws.{cond-either, cond-three}
 use Rattle.lists.proofs.FrameLaws.{but-refl, but-then, but-set}
 use Rattle.mesh.proofs.FaceCorners.{Points, points}
+use Rattle.memory.specs.Layout.{marksFrom, stampsFrom}
 
 module _ {v f : ℕ} where
   -- ---- rules
 
   -- no mark changes
   pub remarked-none : (w : List ℕ) → Remarked v f (λ u m. m) w w
-  remarked-none w = record { but = but-refl (7 * f + 2 * v) (7 * f + 3 * v) w; marks = λ u l. refl }
+  remarked-none w = record { but = but-refl (marksFrom v f) (stampsFrom v f) w; marks = λ u l. refl }
 
   -- one rule after another
   pub remarked-then : {rule next : ℕ → ℕ → ℕ} {w w' w'' : List ℕ} →
@@ -40,38 +40,38 @@ module _ {v f : ℕ} where
 
   -- where no mark changes, no cell of the marks does
   mark-cell : {w w' : List ℕ} → Remarked v f (λ u m. m) w w' →
-      (i : ℕ) → 7 * f + 2 * v ≤ i → i < 7 * f + 3 * v → getD w' i 0 ≡ getD w i 0
+      (i : ℕ) → marksFrom v f ≤ i → i < stampsFrom v f → getD w' i 0 ≡ getD w i 0
   mark-cell r i from to =
-      let offset : 7 * f + 2 * v + (i - (7 * f + 2 * v)) ≡ i = omega arith in
-      rw offset at (r .marks (i - (7 * f + 2 * v)) (omega arith))
+      let offset : marksFrom v f + (i - (marksFrom v f)) ≡ i = omega arith in
+      rw offset at (r .marks (i - (marksFrom v f)) (omega arith))
 
   -- and so the memory stays
   pub remarked-same : {w w' : List ℕ} → Remarked v f (λ u m. m) w w' → w' ≡ w
   remarked-same {w} {w'} r =
       ext-getD 0 w' w (r .but .same-length)
       (λ i l.
-      by-test (ltb i (7 * f + 2 * v))
-      (λ e. r .but .under i (ltb-true i (7 * f + 2 * v) e))
-      (λ e. by-test (ltb i (7 * f + 3 * v))
-      (λ e'. mark-cell r i (ltb-false i (7 * f + 2 * v) e) (ltb-true i (7 * f + 3 * v) e'))
-      (λ e'. r .but .over i (ltb-false i (7 * f + 3 * v) e'))))
+      by-test (ltb i (marksFrom v f))
+      (λ e. r .but .under i (ltb-true i (marksFrom v f) e))
+      (λ e. by-test (ltb i (stampsFrom v f))
+      (λ e'. mark-cell r i (ltb-false i (marksFrom v f) e) (ltb-true i (stampsFrom v f) e'))
+      (λ e'. r .but .over i (ltb-false i (stampsFrom v f) e'))))
 
   -- ---- one point
 
   pub remarked-set : {w : List ℕ} (x value : ℕ) → Room v f w → x < v →
-      Remarked v f (λ u m. cond (eqb u x) value m) w (set w (7 * f + 2 * v + x) value)
+      Remarked v f (λ u m. cond (eqb u x) value m) w (set w (marksFrom v f + x) value)
   remarked-set {w} x value room l = record {
-    but = but-set (7 * f + 2 * v) (7 * f + 3 * v) w (7 * f + 2 * v + x) value (omega arith) (omega arith);
+    but = but-set (marksFrom v f) (stampsFrom v f) w (marksFrom v f + x) value (omega arith) (omega arith);
     marks = λ u m.
         by-test (eqb u x)
-        (λ e. rw (e, eqb-true u x e) (getD-set-same w (7 * f + 2 * v + x) value 0 (omega arith)))
+        (λ e. rw (e, eqb-true u x e) (getD-set-same w (marksFrom v f + x) value 0 (omega arith)))
         (λ e. let apart : u ≢ x = eqb-false u x e in
-        rw e (getD-set-other w (7 * f + 2 * v + x) (7 * f + 2 * v + u) value 0 (omega arith)));
+        rw e (getD-set-other w (marksFrom v f + x) (marksFrom v f + u) value 0 (omega arith)));
   }
 
   -- 1 more at a point
   pub remarked-add : {w : List ℕ} (x : ℕ) → Room v f w → x < v →
-      Remarked v f (λ u m. m + cond (eqb u x) 1 0) w (set w (7 * f + 2 * v + x) (mark v f w x + 1))
+      Remarked v f (λ u m. m + cond (eqb u x) 1 0) w (set w (marksFrom v f + x) (mark v f w x + 1))
   remarked-add {w} x room l =
       remarked-as
       (λ u m. by-test (eqb u x) (λ e. rw (e, eqb-true u x e)) (λ e. rw e (sym (add-zero (mark v f w u)))))

@@ -1,6 +1,6 @@
 -- The faces around a point, as a gathered list of slots and as live faces of the mesh: what a test says of the one it says of the other.
 -- Assumes nothing.
-use Prim.Native.Nat.{ℕ, _+_, _*_, _<_}
+use Prim.Native.Nat.{ℕ, _<_}
 use mathlib.Core.Path.{_≡_, refl, sym, ap, ap₂, _∙_}
 use mathlib.Core.List.{List, [], _∷_}
 use mathlib.Core.Bool.{Bool, true, false, not, _&&_, _||_, cond, and-assoc, and-comm, and-true, and-false}
@@ -11,16 +11,17 @@ use Rattle.lists.specs.Lists.{some, stretch}
 use Rattle.walk.specs.Faces.{holds, both, neighbour, runs, faceAt}
 use Rattle.walk.specs.Pairs.{pairOf, rises}
 use Rattle.lists.proofs.TestLaws.{by-test, left-of, right-of}
-use Rattle.lists.proofs.SumLaws.{sum-same, some-count}
+use Rattle.lists.proofs.SumLaws.{sum-same}
+use Rattle.lists.proofs.EveryLaws.{some-count}
 use Rattle.walk.proofs.FaceLaws.{runs-both}
-use Rattle.memory.specs.Memory.{lives, liveFaces, Proper, nearAt}
+use Rattle.memory.specs.Memory.{lives, liveFaces, Proper, nearAt, liveAt}
 use Rattle.mesh.specs.Contracts.Around.{Gathered}
-use Rattle.memory.specs.Memory.{liveAt}
 use Rattle.lists.proofs.CondLaws.{cond-and}
-use Rattle.lists.proofs.BelowLaws.{every-at}
+use Rattle.lists.proofs.BelowLaws.{every-each}
 use Rattle.mesh.proofs.AroundLaws.{gathered-sums}
 use Rattle.ring.specs.Contracts.Listing.{isAround}
 use Rattle.ring.specs.Contracts.Wanting.{Near, wanted}
+use Rattle.memory.specs.Layout.{nearFrom}
 
 -- ---- live faces and gathered slots
 
@@ -34,10 +35,10 @@ some-around {v} {f} {w} {x} {base} {n} gathered test =
     ∙ sym (some-count (λ face. holds x face && test face) (liveFaces f w))
 
 -- each slot names a proper face
-pub near-gathered : {v f : ℕ} {w : List ℕ} {x n : ℕ} → Proper v f w → Gathered v f w x (13 * f + 4 * v) n → Near v f w n
+pub near-gathered : {v f : ℕ} {w : List ℕ} {x n : ℕ} → Proper v f w → Gathered v f w x (nearFrom v f) n → Near v f w n
 near-gathered {v} {f} {w} {x} {n} good gathered i l =
     let k = nearAt v f w i in
-    let passed : (ltb k f && liveAt f w x k) ≡ true = every-at (λ k. ltb k f && liveAt f w x k) (nearAt v f w) n (gathered .slots-live) i l in
+    let passed : (ltb k f && liveAt f w x k) ≡ true = every-each (λ k. ltb k f && liveAt f w x k) (nearAt v f w) n (gathered .slots-live) i l in
     let inside : k < f = ltb-true k f (left-of (ltb k f) (liveAt f w x k) passed) in
     (inside, good k inside (left-of (lives f w k) (holds x (faceAt w k)) (right-of (ltb k f) (liveAt f w x k) passed)))
 

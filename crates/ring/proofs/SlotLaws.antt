@@ -14,18 +14,18 @@ use lib.ListN.{length, getD, length-map, List·getD-map}
 use borrow.Author.Tests.{ltb-true}
 use Rattle.lists.specs.Lists.{sum, some, every, below, stretch}
 use Rattle.walk.specs.Faces.{holds, proper, faceAt}
-use Rattle.lists.proofs.SumLaws.{sum-append, some-append, every-at, some-from, map-same, length-below, getD-below}
-use Rattle.memory.specs.Memory.{lives, Proper}
+use Rattle.lists.proofs.SumLaws.{sum-append}
+use Rattle.lists.proofs.EveryLaws.{some-append, every-at, some-from}
+use Rattle.lists.proofs.BelowLaws.{length-below, getD-below, map-same-below, every-implies-below}
+use Rattle.memory.specs.Memory.{lives, Proper, liveAt}
 use Rattle.lists.specs.Frames.{But}
-use Rattle.memory.specs.Memory.{liveAt}
-use Rattle.ring.specs.Contracts.Marking.{Listed, Around}
-use Rattle.lists.proofs.CountLaws.{all-below, every-implies-below}
+use Rattle.ring.specs.Contracts.Marking.{FacesListed, Around}
 use Rattle.memory.proofs.FrameLaws.{lives-but, face-but}
 use Rattle.mesh.proofs.AroundLaws.{gathered-but}
 
 -- ---- one slot more
 
-slots-more : (w : List ℕ) (base n : ℕ) → stretch w base (n + 1) ≡ stretch w base n ++ (getD w (base + n) 0 ∷ [])
+pub slots-more : (w : List ℕ) (base n : ℕ) → stretch w base (n + 1) ≡ stretch w base n ++ (getD w (base + n) 0 ∷ [])
 unfolding below
 slots-more w base n = rw (add-one n) (map-append (λ i. getD w (base + i) 0) (below n) (n ∷ []))
 
@@ -67,7 +67,7 @@ slot-small f w base n all i l = ltb-true _ f (every-slot (λ k. ltb k f) w base 
 
 -- ---- the faces of a list
 
-module _ {v f : ℕ} {w : List ℕ} {base n : ℕ} (h : Listed v f w base n) (i : ℕ) (l : i < n) where
+module _ {v f : ℕ} {w : List ℕ} {base n : ℕ} (h : FacesListed v f w base n) (i : ℕ) (l : i < n) where
   both-tests : (ltb (getD w (base + i) 0) f && proper v (faceAt w (getD w (base + i) 0))) ≡ true
   both-tests = every-slot (λ k. ltb k f && proper v (faceAt w k)) w base n (h .all-proper) i l
 
@@ -78,7 +78,7 @@ module _ {v f : ℕ} {w : List ℕ} {base n : ℕ} (h : Listed v f w base n) (i 
   slot-proper = and-elim-right (ltb (getD w (base + i) 0) f) _ both-tests
 
 -- the faces around a point are proper, where every live face is
-pub around-listed : {v f : ℕ} {w : List ℕ} {x base n : ℕ} → Proper v f w → Around v f w x base n → Listed v f w base n
+pub around-listed : {v f : ℕ} {w : List ℕ} {x base n : ℕ} → Proper v f w → Around v f w x base n → FacesListed v f w base n
 around-listed {v} {f} {w} {x} {base} {n} all a = record {
   above = a .above;
   within = omega (arith, a .within, a .gathered .few);
@@ -90,34 +90,34 @@ around-listed {v} {f} {w} {x} {base} {n} all a = record {
 
 -- ---- a change of other cells
 
+-- a list that lies above what changes, or under it, stays
+module _ {lo hi : ℕ} {w w' : List ℕ} (but : But lo hi w w') (base n : ℕ) (apart : (hi ≤ base) ⊎ (base + n ≤ lo)) where
+  slot-but : (i : ℕ) → i < n → getD w' (base + i) 0 ≡ getD w (base + i) 0
+  slot-but i l = ⊎-elim (λ up. but .over (base + i) (omega arith)) (λ down. but .under (base + i) (omega arith)) apart
+
+  pub slots-but : stretch w' base n ≡ stretch w base n
+  slots-but = map-same-below (λ i. getD w' (base + i) 0) (λ i. getD w (base + i) 0) n slot-but
+
 module _ (f : ℕ) {lo hi : ℕ} {w w' : List ℕ} (but : But lo hi w w') (above : 4 * f ≤ lo) where
   -- proper faces stay proper
   pub proper-but : (v : ℕ) → Proper v f w → Proper v f w'
   proper-but v all k l e = ap (proper v) (face-but but above k l) ∙ all k l (sym (lives-but but above k l) ∙ e)
 
-  -- a list that lies above what changes, or under it, stays
+  -- and such a list stays one
   module _ (base n : ℕ) (apart : (hi ≤ base) ⊎ (base + n ≤ lo)) where
-    slot-but : (i : ℕ) → i < n → getD w' (base + i) 0 ≡ getD w (base + i) 0
-    slot-but i l = ⊎-elim (λ up. but .over (base + i) (omega arith)) (λ down. but .under (base + i) (omega arith)) apart
-
-    pub slots-but : stretch w' base n ≡ stretch w base n
-    slots-but =
-        map-same (λ i. getD w' (base + i) 0) (λ i. getD w (base + i) 0) (λ i. ltb i n)
-        (λ i e. slot-but i (ltb-true i n e)) (below n) (all-below n)
-
     pub around-but : {v x : ℕ} → Around v f w x base n → Around v f w' x base n
     around-but a = record {
       above = a .above;
       within = omega (arith, a .within, but .same-length);
-      gathered = gathered-but but above slot-but (a .gathered);
+      gathered = gathered-but but above (slot-but but base n apart) (a .gathered);
     }
 
-    pub listed-but : {v : ℕ} → Listed v f w base n → Listed v f w' base n
+    pub listed-but : {v : ℕ} → FacesListed v f w base n → FacesListed v f w' base n
     listed-but {v} h = record {
       above = h .above;
       within = omega (arith, h .within, but .same-length);
       all-proper =
-          rw slots-but
+          rw (slots-but but base n apart)
           (every-implies-below f (λ k. proper v (faceAt w k)) (λ k. proper v (faceAt w' k))
           (λ k l e. ap (proper v) (face-but but above k l) ∙ e)
           (stretch w base n) (h .all-proper));

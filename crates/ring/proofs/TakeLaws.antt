@@ -1,6 +1,6 @@
 -- Listed points and marked ones are together the same, whatever marks are taken off.
 -- Assumes nothing.
-use Prim.Native.Nat.{ℕ, _+_, _*_, _<_}
+use Prim.Native.Nat.{ℕ, _+_, _<_}
 use native.Mathlib.Numerals.{add-one}
 use native.Mathlib.Omega.{arith}
 use mathlib.Core.Path.{_≡_, refl, sym, ap, _∙_}
@@ -10,21 +10,23 @@ use mathlib.Core.Bool.{Bool, not, _||_, cond}
 use lib.Dec.{eqb}
 use lib.ListN.{getD, set}
 use lib.Seq.{getD-set-same, getD-set-other}
-use borrow.Author.Tests.{eqb-true, eqb-false, ne-eqb}
+use borrow.Author.Tests.{eqb-true, ne-eqb}
 use Rattle.walk.specs.declared.Face.{Face}
 use Rattle.lists.specs.Lists.{sum, below}
 use Rattle.walk.specs.Faces.{holds, faceAt}
 use Rattle.lists.proofs.TestLaws.{by-test}
-use Rattle.lists.proofs.SumLaws.{sum-those, sum-length, sum-below}
+use Rattle.lists.proofs.SumLaws.{sum-those, sum-length, sum-add}
+use Rattle.lists.proofs.BelowLaws.{sum-below, sum-same-below, sum-single, sum-ones}
 use Rattle.memory.specs.Memory.{mark, Room, aroundIn, nearAt}
 use Rattle.lists.specs.Frames.{But}
-use Rattle.lists.proofs.BelowSums.{sum-same-below, sum-add, sum-single, sum-ones}
 use Rattle.mesh.proofs.AroundLaws.{sum-slots}
 use Rattle.lists.proofs.FrameLaws.{but-set}
+use Rattle.ring.specs.Contracts.Marking.{Remarked}
 use Rattle.ring.specs.Contracts.Wanting.{found}
 use Rattle.ring.specs.Contracts.Taking.{marked, Taken, Ready}
 use Rattle.ring.proofs.FrameLaws.{framed-refl, framed-then, framed-marks, framed-points, framed-room}
 use Rattle.ring.proofs.WantedLaws.{cond-then, found-none, found-next}
+use Rattle.memory.specs.Layout.{aroundFrom, marksFrom, orderFrom}
 
 module _ (v f : ℕ) where
   -- ---- the marked points, as a sum over all points
@@ -57,7 +59,7 @@ module _ (v f : ℕ) where
           marked-sum w' g,
           marked-sum w g,
           sum-same-below (counted w g) (λ u. counted w' g u + one u) v here,
-          sum-add (counted w' g) one v,
+          sum-add (counted w' g) one (below v),
           sum-single g y v y-in,
         )
 
@@ -67,21 +69,21 @@ module _ (v f : ℕ) where
   unfolding sum below
   listed-none w g = refl
 
-  pub listed-next : (w : List ℕ) (n : ℕ) (g : ℕ → ℕ) → sum g (aroundIn v f w (n + 1)) ≡ sum g (aroundIn v f w n) + g (getD w (15 * f + 4 * v + n) 0)
+  pub listed-next : (w : List ℕ) (n : ℕ) (g : ℕ → ℕ) → sum g (aroundIn v f w (n + 1)) ≡ sum g (aroundIn v f w n) + g (getD w (aroundFrom v f + n) 0)
   listed-next w n g =
       rw add-one
-      (sum-slots g w (15 * f + 4 * v) _
-      ∙ sum-below (λ i. g (getD w (15 * f + 4 * v + i) 0)) n
-      ∙ ap (λ (k : ℕ). k + g (getD w (15 * f + 4 * v + n) 0)) (sym (sum-slots g w (15 * f + 4 * v) n)))
+      (sum-slots g w (aroundFrom v f) _
+      ∙ sum-below (λ i. g (getD w (aroundFrom v f + i) 0)) n
+      ∙ ap (λ (k : ℕ). k + g (getD w (aroundFrom v f + n) 0)) (sym (sum-slots g w (aroundFrom v f) n)))
 
   pub listed-count : (w : List ℕ) (n : ℕ) → sum (λ u. 1) (aroundIn v f w n) ≡ n
-  listed-count w n = sum-slots (λ u. 1) w (15 * f + 4 * v) n ∙ sum-ones n
+  listed-count w n = sum-slots (λ u. 1) w (aroundFrom v f) n ∙ sum-ones n
 
   -- two memories with the same points there
-  pub listed-same : (w w' : List ℕ) (n : ℕ) → ((i : ℕ) → i < n → getD w' (15 * f + 4 * v + i) 0 ≡ getD w (15 * f + 4 * v + i) 0) → (g : ℕ → ℕ) →
+  pub listed-same : (w w' : List ℕ) (n : ℕ) → ((i : ℕ) → i < n → getD w' (aroundFrom v f + i) 0 ≡ getD w (aroundFrom v f + i) 0) → (g : ℕ → ℕ) →
       sum g (aroundIn v f w' n) ≡ sum g (aroundIn v f w n)
   listed-same w w' n same g =
-      sum-slots g w' (15 * f + 4 * v) n ∙ sum-same-below _ _ n (λ i l. ap g (same i l)) ∙ sym (sum-slots g w (15 * f + 4 * v) n)
+      sum-slots g w' (aroundFrom v f) n ∙ sum-same-below _ _ n (λ i l. ap g (same i l)) ∙ sym (sum-slots g w (aroundFrom v f) n)
 
 -- ---- marks taken off
 
@@ -90,7 +92,7 @@ pub record Unmark (v f : ℕ) (w : List ℕ) (n y : ℕ) (w' : List ℕ) : Type 
   pub ready : Ready v f w n
   pub within : y < v
   pub was : mark v f w y ≢ 0
-  pub written : w' ≡ set w (7 * f + 2 * v + y) 0
+  pub written : Remarked v f (λ u m. cond (eqb u y) 0 m) w w'
 
 module _ {v f : ℕ} where
   -- nothing is done
@@ -104,39 +106,30 @@ module _ {v f : ℕ} where
       taken-none (λ u l. by-test (eqb u y) (λ e. rw (e, eqb-true u y e) off) (λ e. rw e))
 
   module _ {w w' : List ℕ} {n y : ℕ} (off : Unmark v f w n y w') where
-    unmark-but : But (7 * f + 2 * v) (7 * f + 3 * v) w w'
-    unmark-but = rw (off .written) (but-set _ _ w (7 * f + 2 * v + y) 0 (omega arith) (omega arith))
-
-    unmark-marks : (u : ℕ) → u < v → mark v f w' u ≡ cond (eqb u y) 0 (mark v f w u)
-    unmark-marks u l =
-        rw (off .written) (by-test (eqb u y)
-        (λ s. rw (s, eqb-true u y s) (getD-set-same w (7 * f + 2 * v + y) 0 0 (omega (arith, off .ready .room .long))))
-        (λ s. rw s (getD-set-other w (7 * f + 2 * v + y) (7 * f + 2 * v + u) 0 0 (omega (arith, eqb-false u y s)))))
-
     -- what was marked is what is marked still and the point
     unmark-sum : (g : ℕ → ℕ) → sum g (marked v f w') + g y ≡ sum g (marked v f w)
-    unmark-sum = marked-less v f w w' y (off .within) (off .was) unmark-marks
+    unmark-sum = marked-less v f w w' y (off .within) (off .was) (off .written .marks)
 
     unmark-room : Room v f w'
-    unmark-room = framed-room (framed-marks unmark-but) (off .ready .room)
+    unmark-room = framed-room (framed-marks (off .written .but)) (off .ready .room)
 
     -- there is a place for it
     unmark-place : n < v
     unmark-place = omega (arith, off .ready .enough, unmark-sum (λ u. 1), sum-length (marked v f w))
 
     -- and it is listed
-    pub taken-one : {w'' : List ℕ} → w'' ≡ set w' (15 * f + 4 * v + n) y → Taken v f (λ u. eqb u y) w n w'' (n + 1)
+    pub taken-one : {w'' : List ℕ} → w'' ≡ set w' (aroundFrom v f + n) y → Taken v f (λ u. eqb u y) w n w'' (n + 1)
     taken-one {w''} e =
         let place = unmark-place in
-        let but : But (15 * f + 4 * v) (15 * f + 5 * v) w' w'' = rw e (but-set _ _ w' (15 * f + 4 * v + n) y (omega arith) (omega arith)) in
-        let same-marks : (u : ℕ) → u < v → mark v f w'' u ≡ mark v f w' u = λ u l. but .under (7 * f + 2 * v + u) (omega arith) in
-        let here : getD w'' (15 * f + 4 * v + n) 0 ≡ y =
-        rw e (getD-set-same w' (15 * f + 4 * v + n) y 0 (omega (arith, unmark-room .long))) in
-        let others : (i : ℕ) → i < n → getD w'' (15 * f + 4 * v + i) 0 ≡ getD w (15 * f + 4 * v + i) 0 =
-        λ i l. rw e (getD-set-other w' (15 * f + 4 * v + n) (15 * f + 4 * v + i) y 0 (omega arith)) ∙ unmark-but .over (15 * f + 4 * v + i) (omega arith) in
+        let but : But (aroundFrom v f) (orderFrom v f) w' w'' = rw e (but-set _ _ w' (aroundFrom v f + n) y (omega arith) (omega arith)) in
+        let same-marks : (u : ℕ) → u < v → mark v f w'' u ≡ mark v f w' u = λ u l. but .under (marksFrom v f + u) (omega arith) in
+        let here : getD w'' (aroundFrom v f + n) 0 ≡ y =
+        rw e (getD-set-same w' (aroundFrom v f + n) y 0 (omega (arith, unmark-room .long))) in
+        let others : (i : ℕ) → i < n → getD w'' (aroundFrom v f + i) 0 ≡ getD w (aroundFrom v f + i) 0 =
+        λ i l. rw e (getD-set-other w' (aroundFrom v f + n) (aroundFrom v f + i) y 0 (omega arith)) ∙ off .written .but .over (aroundFrom v f + i) (omega arith) in
         record {
-          frame = framed-then (framed-marks unmark-but) (framed-points but);
-          marks = λ u l. same-marks u l ∙ unmark-marks u l;
+          frame = framed-then (framed-marks (off .written .but)) (framed-points but);
+          marks = λ u l. same-marks u l ∙ off .written .marks u l;
           sums = λ g.
               omega (
                 arith,

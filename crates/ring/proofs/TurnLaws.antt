@@ -1,6 +1,6 @@
 -- The loops over a list of faces: what a turn at the next slot adds to marking, to clearing, to a search and to a count.
 -- Assumes nothing.
-use Prim.Native.Nat.{ℕ, _+_, _*_, _≤_, _<_}
+use Prim.Native.Nat.{ℕ, _+_, _≤_, _<_}
 use native.Mathlib.Nat.{add-zero}
 use native.Mathlib.Omega.{arith}
 use mathlib.Core.Path.{_≡_, refl, sym, ap, _∙_}
@@ -12,11 +12,13 @@ use Rattle.walk.specs.Faces.{holds, proper, faceAt}
 use Rattle.memory.specs.Memory.{mark, Unmarked}
 use Rattle.lists.specs.Frames.{But}
 use Rattle.mesh.specs.Contracts.Around.{Marked, Cleared}
-use Rattle.ring.specs.Contracts.Marking.{Listed, Remarked, FewMarks}
-use Rattle.lists.proofs.CountLaws.{count-most, cond-either}
+use Rattle.ring.specs.Contracts.Marking.{FacesListed, Remarked, FewMarks}
+use Rattle.lists.proofs.EveryLaws.{count-most}
+use Rattle.lists.proofs.CondLaws.{cond-either}
 use Rattle.lists.proofs.FrameLaws.{but-refl, but-then}
 use Rattle.memory.proofs.FrameLaws.{face-but}
 use Rattle.ring.proofs.SlotLaws.{slot-below, slot-proper, sum-more, some-more, some-slot, length-slots}
+use Rattle.memory.specs.Layout.{marksFrom, stampsFrom}
 
 -- ---- the next slot
 
@@ -26,8 +28,8 @@ pub record Next (v f : ℕ) (w₀ w : List ℕ) (base i k : ℕ) : Type 0 where
   pub face : faceAt w k ≡ faceAt w₀ (getD w₀ (base + i) 0)
   pub face-proper : proper v (faceAt w k) ≡ true
 
-pub next-slot : {v f : ℕ} {w₀ w : List ℕ} {base n i k : ℕ} → Listed v f w₀ base n →
-    But (7 * f + 2 * v) (7 * f + 3 * v) w₀ w → i < n → k ≡ getD w (base + i) 0 → Next v f w₀ w base i k
+pub next-slot : {v f : ℕ} {w₀ w : List ℕ} {base n i k : ℕ} → FacesListed v f w₀ base n →
+    But (marksFrom v f) (stampsFrom v f) w₀ w → i < n → k ≡ getD w (base + i) 0 → Next v f w₀ w base i k
 next-slot {v} {f} {w₀} {w} {base} {n} {i} {k} h but l read =
     let slot : k ≡ getD w₀ (base + i) 0 = read ∙ but .over (base + i) (omega (arith, h .above)) in
     let small : k < f = omega (arith, slot-below h i l) in
@@ -50,7 +52,7 @@ module _ {v f : ℕ} {w₀ w : List ℕ} {base i k : ℕ} (next : Next v f w₀ 
 pub marked-none : (v f base : ℕ) (w : List ℕ) → Marked v f w base 0 w
 unfolding sum below
 marked-none v f base w = record {
-  but = but-refl (7 * f + 2 * v) (7 * f + 3 * v) w;
+  but = but-refl (marksFrom v f) (stampsFrom v f) w;
   marks = λ u l. sym (add-zero (mark v f w u));
 }
 
@@ -70,7 +72,7 @@ marked-few {v} {f} {w₀} {w} {base} {i} none few h u l =
 
 pub cleared-none : (v f base : ℕ) (w : List ℕ) → Cleared v f w base 0 w
 unfolding some below
-cleared-none v f base w = record { but = but-refl (7 * f + 2 * v) (7 * f + 3 * v) w; marks = λ u l. refl }
+cleared-none v f base w = record { but = but-refl (marksFrom v f) (stampsFrom v f) w; marks = λ u l. refl }
 
 pub cleared-more : {v f : ℕ} {w₀ w w' : List ℕ} {base i k : ℕ} → Next v f w₀ w base i k → Cleared v f w₀ base i w →
     Remarked v f (λ u m. cond (holds u (faceAt w k)) 0 m) w w' → Cleared v f w₀ base (i + 1) w'

@@ -2,6 +2,7 @@
 //
 // The faces around the point are gathered, the points that they ask for are marked, and each mark that is taken off lists its point. So no point is
 // listed twice, though two faces may ask for it.
+use crate::marking::clear_mark;
 use walk::Face;
 ghost use mathlib.Core.Path.{_≡_};
 ghost use mathlib.Core.Bool.{true, _&&_};
@@ -10,7 +11,7 @@ ghost use lib.Dec.{eqb};
 ghost use Rattle.walk.specs.Faces.{holds, runs as runsIn, proper, faceAt};
 ghost use Rattle.memory.specs.Memory.{Room, nearAt};
 ghost use Rattle.mesh.specs.Contracts.Chains.{Tidy};
-ghost use Rattle.ring.specs.Contracts.Listing.{Listed};
+ghost use Rattle.ring.specs.Contracts.Listing.{AroundListed};
 ghost use Rattle.ring.specs.Contracts.Wanting.{Near, found, wanted, Marks};
 ghost use Rattle.ring.specs.Contracts.Taking.{Taken, Ready};
 
@@ -59,7 +60,7 @@ fn face_near(w: &[u32], v: usize, f: usize, i: usize) -> Face
     requires { ⌜ Room v f (now w) ⌝ ∗ ⌜ i < f ⌝ ∗ ⌜ nearAt v f (now w) i < f ⌝ }
     ensures { λ r. ⌜ r ≡ faceAt (now (w .entry)) (nearAt v f (now (w .entry)) i) ⌝ }
 {
-    let k = w[13 * f + 4 * v + i];
+    let k = memory::near_at(w, v, f, i);
     memory::face_in(w, f, k as usize)
 }
 
@@ -84,8 +85,8 @@ fn list_corner(w: &mut [u32], v: usize, f: usize, n: usize, y: u32) -> usize
     if memory::mark_at(w, v, f, y as usize) == 0 {
         return n;
     }
-    memory::set_mark(w, v, f, y as usize, 0);
-    w[15 * f + 4 * v + n] = y;
+    clear_mark(w, v, f, y);
+    memory::set_around(w, v, f, n, y);
     n + 1
 }
 
@@ -117,9 +118,9 @@ fn list_marked(w: &mut [u32], v: usize, f: usize, count: usize) -> usize
 // Lists the points around x, each once. Says how many.
 pub fn list_around(w: &mut [u32], v: usize, f: usize, rising: bool, x: u32) -> usize
     requires { ⌜ Tidy v f (now w) ⌝ ∗ ⌜ x < v ⌝ }
-    ensures { λ r. ⌜ Listed v f (now (w .entry)) rising x (now (w .exit)) r ⌝ }
+    ensures { λ r. ⌜ AroundListed v f (now (w .entry)) rising x (now (w .exit)) r ⌝ }
 {
-    let count = mesh::collect(w, v, f, x as usize, 13 * f + 4 * v);
+    let count = mesh::collect(w, v, f, x as usize, memory::near_from(v, f));
     mark_wanted(w, v, f, count, rising, x);
     list_marked(w, v, f, count)
 }

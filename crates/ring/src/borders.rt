@@ -1,15 +1,15 @@
 // Border points: a point is one if just one face holds it and some other point.
 ghost use mathlib.Core.Path.{_≡_};
 ghost use mathlib.Core.Bool.{true, _&&_, cond};
-ghost use Prim.Native.Nat.{_+_, _*_, _≤_, _<_};
-ghost use lib.ListN.{length};
+ghost use Prim.Native.Nat.{_<_};
 ghost use Rattle.lists.specs.Lists.{some, stretch};
 ghost use Rattle.walk.specs.Faces.{proper, borderPoint, faceAt};
 ghost use Rattle.memory.specs.Memory.{Room, liveFaces};
 ghost use Rattle.lists.specs.Frames.{But};
 ghost use Rattle.mesh.specs.Contracts.Chains.{Tidy};
 ghost use Rattle.mesh.specs.Contracts.Laid.{Bordered};
-ghost use Rattle.ring.specs.Contracts.Marking.{Listed, single, somePoint};
+ghost use Rattle.ring.specs.Contracts.Marking.{FacesListed, single, somePoint};
+ghost use Rattle.memory.specs.Layout.{farFrom, nearFrom};
 use crate::marking::clear_faces;
 use crate::marking::mark_faces;
 use crate::marking::slot_at;
@@ -47,7 +47,7 @@ fn face_has_single(w: &[u32], v: usize, f: usize, x: usize, k: usize) -> bool
 
 // Whether one of the listed faces has a point other than x with the mark 1.
 fn has_single(w: &[u32], v: usize, f: usize, x: usize, base: usize, n: usize) -> bool
-    requires { ⌜ Room v f (now w) ⌝ ∗ ⌜ Listed v f (now w) base n ⌝ }
+    requires { ⌜ Room v f (now w) ⌝ ∗ ⌜ FacesListed v f (now w) base n ⌝ }
     ensures { λ r. ⌜ r ≡ some (λ k. somePoint (single v f (now (w .entry)) x) (faceAt (now (w .entry)) k)) (stretch (now (w .entry)) base n) ⌝ }
 {
     for i in 0..n {
@@ -59,12 +59,13 @@ fn has_single(w: &[u32], v: usize, f: usize, x: usize, base: usize, n: usize) ->
     false
 }
 
-// Whether x is a border point. The cells from base on are for the faces around x; every other cell is as before.
-pub fn is_border(w: &mut [u32], v: usize, f: usize, x: usize, base: usize) -> bool
-    requires { ⌜ Tidy v f (now w) ⌝ ∗ ⌜ x < v ⌝ ∗ ⌜ 13 * f + 4 * v ≤ base ⌝ ∗ ⌜ base + f ≤ length (now w) ⌝ }
+// Whether x is a border point. Only the cells of the faces around a point change.
+fn is_border(w: &mut [u32], v: usize, f: usize, x: usize) -> bool
+    requires { ⌜ Tidy v f (now w) ⌝ ∗ ⌜ x < v ⌝ }
     ensures { λ r. ⌜ r ≡ borderPoint v (liveFaces f (now (w .entry))) x ⌝ }
-    ensures { λ _. ⌜ But base (base + f) (now (w .entry)) (now (w .exit)) ⌝ }
+    ensures { λ _. ⌜ But (nearFrom v f) (farFrom v f) (now (w .entry)) (now (w .exit)) ⌝ }
 {
+    let base = memory::near_from(v, f);
     let n = collect(w, v, f, x, base);
     mark_faces(w, v, f, base, n);
     let found = has_single(w, v, f, x, base, n);
@@ -76,10 +77,10 @@ pub fn is_border(w: &mut [u32], v: usize, f: usize, x: usize, base: usize) -> bo
 fn kind_of(w: &mut [u32], v: usize, f: usize, x: usize, preserve: bool) -> u32
     requires { ⌜ Tidy v f (now w) ⌝ ∗ ⌜ x < v ⌝ }
     ensures { λ r. ⌜ r ≡ cond (preserve && borderPoint v (liveFaces f (now (w .entry))) x) 1 0 ⌝ }
-    ensures { λ _. ⌜ But (13 * f + 4 * v) (14 * f + 4 * v) (now (w .entry)) (now (w .exit)) ⌝ }
+    ensures { λ _. ⌜ But (nearFrom v f) (farFrom v f) (now (w .entry)) (now (w .exit)) ⌝ }
 {
     if preserve {
-        if is_border(w, v, f, x, 13 * f + 4 * v) {
+        if is_border(w, v, f, x) {
             return 1;
         }
     }

@@ -8,8 +8,9 @@ ghost use Rattle.lists.specs.Lists.{count, every, stretch};
 ghost use Rattle.walk.specs.Faces.{holds, proper, common, faceAt};
 ghost use Rattle.memory.specs.Memory.{Room, liveFaces};
 ghost use Rattle.mesh.specs.Contracts.Chains.{Tidy};
-ghost use Rattle.ring.specs.Contracts.Marking.{Listed, Around, heldIn};
+ghost use Rattle.ring.specs.Contracts.Marking.{FacesListed, Around, heldIn};
 ghost use Rattle.ring.specs.Contracts.Counting.{Counted};
+use crate::Ring;
 use crate::marking::clear_faces;
 use crate::marking::clear_mark;
 use crate::marking::mark_faces;
@@ -35,18 +36,17 @@ pub fn shared_count(w: &[u32], f: usize, base: usize, n: usize, y: u32) -> usize
 }
 
 // Counts a marked point that is neither of two, and takes its mark, so that it is counted once.
-fn count_point(w: &mut [u32], v: usize, f: usize, keep: usize, remove: usize, x: u32) -> usize
+fn count_point(w: &mut [u32], v: usize, f: usize, keep: u32, remove: u32, x: u32) -> usize
     requires { ⌜ Room v f (now w) ⌝ ∗ ⌜ x < v ⌝ }
     ensures { λ r. ⌜ Counted v f keep remove (λ u. eqb u x) (now (w .entry)) (now (w .exit)) r ⌝ }
 {
-    let point = x as usize;
-    if keep == point {
+    if keep == x {
         return 0;
     }
-    if remove == point {
+    if remove == x {
         return 0;
     }
-    if mark_at(w, v, f, point) == 0 {
+    if mark_at(w, v, f, x as usize) == 0 {
         return 0;
     }
     clear_mark(w, v, f, x);
@@ -54,7 +54,7 @@ fn count_point(w: &mut [u32], v: usize, f: usize, keep: usize, remove: usize, x:
 }
 
 // Counts the marked points of a face that are neither of two, and takes their marks.
-fn count_face(w: &mut [u32], v: usize, f: usize, keep: usize, remove: usize, k: usize) -> usize
+fn count_face(w: &mut [u32], v: usize, f: usize, keep: u32, remove: u32, k: usize) -> usize
     requires { ⌜ Room v f (now w) ⌝ ∗ ⌜ k < f ⌝ ∗ ⌜ proper v (faceAt (now w) k) ≡ true ⌝ }
     ensures { λ r. ⌜ Counted v f keep remove (λ u. holds u (faceAt (now (w .entry)) k)) (now (w .entry)) (now (w .exit)) r ⌝ }
 {
@@ -70,12 +70,12 @@ fn count_faces(
     w: &mut [u32],
     v: usize,
     f: usize,
-    keep: usize,
-    remove: usize,
+    keep: u32,
+    remove: u32,
     base: usize,
     n: usize,
 ) -> usize
-    requires { ⌜ Room v f (now w) ⌝ ∗ ⌜ Listed v f (now w) base n ⌝ }
+    requires { ⌜ Room v f (now w) ⌝ ∗ ⌜ FacesListed v f (now w) base n ⌝ }
     ensures { λ r. ⌜ Counted v f keep remove (heldIn (now (w .entry)) base n) (now (w .entry)) (now (w .exit)) r ⌝ }
 {
     let mut r = 0;
@@ -86,24 +86,14 @@ fn count_faces(
     r
 }
 
-// How many points are neighbours of both keep and remove. The faces around keep are listed from near on, those around remove from far on.
-pub fn common_count(
-    w: &mut [u32],
-    v: usize,
-    f: usize,
-    keep: usize,
-    remove: usize,
-    near: usize,
-    n: usize,
-    far: usize,
-    m: usize,
-) -> usize
-    requires { ⌜ Tidy v f (now w) ⌝ ∗ ⌜ Around v f (now w) keep near n ⌝ ∗ ⌜ Around v f (now w) remove far m ⌝ }
+// How many points are neighbours of both keep and remove, by the faces around them.
+pub fn common_count(w: &mut [u32], v: usize, f: usize, keep: u32, remove: u32, ring: Ring) -> usize
+    requires { ⌜ Tidy v f (now w) ⌝ ∗ ⌜ Around v f (now w) keep (ring .near) (ring .nears) ⌝ ∗ ⌜ Around v f (now w) remove (ring .far) (ring .fars) ⌝ }
     ensures { λ r. ⌜ r ≡ common v (liveFaces f (now (w .entry))) keep remove ⌝ }
     ensures { λ _. ⌜ now (w .exit) ≡ now (w .entry) ⌝ }
 {
-    mark_faces(w, v, f, near, n);
-    let r = count_faces(w, v, f, keep, remove, far, m);
-    clear_faces(w, v, f, near, n);
+    mark_faces(w, v, f, ring.near, ring.nears);
+    let r = count_faces(w, v, f, keep, remove, ring.far, ring.fars);
+    clear_faces(w, v, f, ring.near, ring.nears);
     r
 }

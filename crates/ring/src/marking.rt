@@ -7,7 +7,7 @@ ghost use lib.ListN.{length, getD};
 ghost use Rattle.walk.specs.Faces.{holds, proper, faceAt};
 ghost use Rattle.memory.specs.Memory.{Room, Unmarked, mark};
 ghost use Rattle.mesh.specs.Contracts.Around.{Marked, Cleared};
-ghost use Rattle.ring.specs.Contracts.Marking.{Listed, Remarked, FewMarks};
+ghost use Rattle.ring.specs.Contracts.Marking.{FacesListed, Remarked, FewMarks};
 use memory::face_in;
 use memory::mark_at;
 use memory::set_mark;
@@ -43,7 +43,7 @@ fn mark_face(w: &mut [u32], v: usize, f: usize, k: usize)
 
 // Each of the listed faces adds 1 to the mark of each of its three points.
 pub fn mark_faces(w: &mut [u32], v: usize, f: usize, base: usize, n: usize)
-    requires { ⌜ Room v f (now w) ⌝ ∗ ⌜ Unmarked v f (now w) ⌝ ∗ ⌜ Listed v f (now w) base n ⌝ ∗ ⌜ n ≤ f ⌝ }
+    requires { ⌜ Room v f (now w) ⌝ ∗ ⌜ Unmarked v f (now w) ⌝ ∗ ⌜ FacesListed v f (now w) base n ⌝ ∗ ⌜ n ≤ f ⌝ }
     ensures { λ _. ⌜ Marked v f (now (w .entry)) base n (now (w .exit)) ⌝ }
 {
     for i in 0..n {
@@ -73,7 +73,7 @@ fn clear_face(w: &mut [u32], v: usize, f: usize, k: usize)
 
 // Sets the mark of each point of the listed faces to 0.
 pub fn clear_faces(w: &mut [u32], v: usize, f: usize, base: usize, n: usize)
-    requires { ⌜ Room v f (now w) ⌝ ∗ ⌜ Listed v f (now w) base n ⌝ }
+    requires { ⌜ Room v f (now w) ⌝ ∗ ⌜ FacesListed v f (now w) base n ⌝ }
     ensures { λ _. ⌜ Cleared v f (now (w .entry)) base n (now (w .exit)) ⌝ }
 {
     for i in 0..n {

@@ -1,6 +1,6 @@
--- Numbers read one after another, and a list written over the beginning of another.
+-- A loop that writes g of each of n numbers over the beginning of a list.
 -- Assumes nothing.
-use Prim.Native.Nat.{ℕ, zero, suc, _+_, _*_, _≤_, _<_}
+use Prim.Native.Nat.{ℕ, _+_, _*_, _≤_, _<_}
 use native.Mathlib.Nat.{zero-add}
 use native.Mathlib.Numerals.{add-one}
 use native.Mathlib.Omega.{arith}
@@ -8,25 +8,9 @@ use mathlib.Core.Path.{_≡_, refl, sym, ap, _∙_}
 use mathlib.Core.List.{List, _++_, map}
 use lib.ListN.{length, getD, take, drop, set, length-set, length-map, List·getD-map}
 use lib.Seq.{paste-suc, take-length}
-use Rattle.scanfile.specs.Words.{fourBytes}
-use Rattle.scanfile.specs.Contents.{numbersFrom, over}
-
--- as many as asked for
-pub numbers-count : (bytes : List ℕ) (at n : ℕ) → length (numbersFrom bytes at n) ≡ n
-unfolding numbersFrom
-numbers-count bytes at zero = refl
-numbers-count bytes at (suc n) = ap suc (numbers-count bytes (at + 4) n)
-
--- number i stands 4 * i bytes on
-pub number-at : (bytes : List ℕ) (at n i : ℕ) → i < n → getD (numbersFrom bytes at n) i 0 ≡ fourBytes bytes (at + 4 * i)
-unfolding numbersFrom
-number-at bytes at zero i h = absurd (omega arith)
-number-at bytes at (suc n) zero h = let same : at ≡ at + 4 * zero = omega arith in ap (fourBytes bytes) same
-number-at bytes at (suc n) (suc i) h =
-    let same : at + 4 + 4 * i ≡ at + 4 * suc i = omega arith in
-    number-at bytes (at + 4) n i (omega arith) ∙ ap (fourBytes bytes) same
-
--- ---- a loop that writes g of each of n numbers over the beginning of old
+use Rattle.records.specs.Words.{fourBytes, numbersFrom}
+use Rattle.records.proofs.WordLaws.{numbers-count, number-at}
+use Rattle.lists.specs.Frames.{overlaid}
 
 -- the first i are written
 pub record Reading {A : Type 0} (g : ℕ → A) (bytes : List ℕ) (at n : ℕ) (old w : List A) (i : ℕ) : Type 0 where
@@ -59,7 +43,7 @@ module _ {A : Type 0} (g : ℕ → A) (bytes : List ℕ) (at n : ℕ) (old : Lis
       }
 
   -- all are written
-  pub done : (w : List A) (i : ℕ) → Reading g bytes at n old w i → n ≤ i → w ≡ over all old
+  pub done : (w : List A) (i : ℕ) → Reading g bytes at n old w i → n ≤ i → w ≡ overlaid all old
   done w i r least =
       let full : i ≡ length all = omega (arith, all-count) in
       r .so-far ∙ rw (full, take-length) refl

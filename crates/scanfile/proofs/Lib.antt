@@ -1,9 +1,7 @@
 -- What follows from the definitions of specs/, and is no code.
-pub mod PatternLaws
-pub mod RecordLaws
+pub mod FaultLaws
 pub mod ScanLaws
 pub mod ContentLaws
 pub mod GoodLaws
 pub mod PrefixLaws
-pub mod WriteLaws
 pub mod FileLaws

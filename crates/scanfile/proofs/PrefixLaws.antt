@@ -7,25 +7,17 @@ use mathlib.Core.List.{List}
 use mathlib.Core.Bool.{Bool, true, false, not, cond}
 use lib.Dec.{ltb, eqb}
 use lib.ListN.{length, take}
-use lib.Seq.{take-all, getD-take, length-take-le}
+use lib.Seq.{take-all, length-take-le}
 use borrow.Author.Tests.{ltb-true, ltb-false, lt-ltb, le-ltb}
+use Rattle.records.specs.Words.{twoBytes, fourBytes}
+use Rattle.records.specs.Records.{sizeAt, kindAt}
+use Rattle.records.proofs.WordLaws.{two-begun, four-begun}
 use Rattle.scanfile.specs.declared.Scan.{Scan}
-use Rattle.scanfile.specs.declared.Scan.the-variants.{Good}
-use Rattle.scanfile.specs.Words.{twoBytes, fourBytes}
-use Rattle.scanfile.specs.Records.{sizeAt, kindAt, wrongSize, mostOf, recordFault, optionsFault}
-use Rattle.scanfile.specs.Scans.{thirdAt, endOf, headOf, refuse, scanOf}
-use Rattle.scanfile.proofs.RecordLaws.{passed, points-most, faces-most}
-
--- ---- the answer from each test on
-
-abbrev afterThird : List ℕ → Scan
-afterThird bytes = refuse (cond (ltb (endOf bytes) (length bytes)) 25 0) (endOf bytes) (Good (headOf bytes))
-
-abbrev afterSecond : List ℕ → Scan
-afterSecond bytes = refuse (recordFault bytes 3 (thirdAt bytes)) (thirdAt bytes) (afterThird bytes)
-
-abbrev afterOptions : List ℕ → Scan
-afterOptions bytes = refuse (recordFault bytes 2 18) 18 (afterSecond bytes)
+use Rattle.scanfile.specs.Layout.{secondAt, thirdAt, endOf}
+use Rattle.scanfile.specs.Faults.{wrongSize, mostOf, recordFault, optionsFault}
+use Rattle.scanfile.specs.Scans.{headOf, refuse, scanOf}
+use Rattle.scanfile.proofs.ScanLaws.{afterThird, afterSecond, afterOptions}
+use Rattle.scanfile.proofs.FaultLaws.{passed}
 
 -- what comes next matters only where nothing refused
 same-next : (n n' place place' : ℕ) (next next' : Scan) → n ≡ n' → place ≡ place' → (n' ≡ 0 → next ≡ next') →
@@ -59,11 +51,10 @@ module _ (n : ℕ) (most : 4639 ≤ n) (bytes : List ℕ) (long : n ≤ length b
   begin-length = length-take-le n bytes long
 
   same-two : (at : ℕ) → at + 2 ≤ 4639 → twoBytes begin at ≡ twoBytes bytes at
-  same-two at h = rw (getD-take n bytes at 0 (omega arith), getD-take n bytes (at + 1) 0 (omega arith))
+  same-two at h = two-begun n bytes at (omega arith)
 
   same-four : (at : ℕ) → at + 4 ≤ 4639 → fourBytes begin at ≡ fourBytes bytes at
-  unfolding fourBytes
-  same-four at h = rw (same-two at (omega arith), same-two (at + 2) (omega arith))
+  same-four at h = four-begun n bytes at (omega arith)
 
   same-fault : (kind at : ℕ) → at ≤ 1560 → recordFault begin kind at ≡ recordFault bytes kind at
   unfolding recordFault
@@ -86,7 +77,7 @@ module _ (n : ℕ) (most : 4639 ≤ n) (bytes : List ℕ) (long : n ≤ length b
 
   -- ---- the places, once the records before them passed
 
-  module _ (second : sizeAt bytes 18 ≤ 1536) where
+  module _ (second : sizeAt bytes secondAt ≤ 1536) where
     same-third : thirdAt begin ≡ thirdAt bytes
     same-third = rw (same-four 18 (omega arith)) refl
 
@@ -110,20 +101,20 @@ module _ (n : ℕ) (most : 4639 ≤ n) (bytes : List ℕ) (long : n ≤ length b
         let there : endOf bytes < length bytes = omega arith in
         lt-ltb _ _ here ∙ sym (lt-ltb _ _ there)
 
-  same-after-third : sizeAt bytes 18 ≤ 1536 → sizeAt bytes (thirdAt bytes) ≤ 3072 → afterThird begin ≡ afterThird bytes
+  same-after-third : sizeAt bytes secondAt ≤ 1536 → sizeAt bytes (thirdAt bytes) ≤ 3072 → afterThird begin ≡ afterThird bytes
   same-after-third second third = rw (same-spare second third, same-end second, same-head second) refl
 
-  same-after-second : sizeAt bytes 18 ≤ 1536 → afterSecond begin ≡ afterSecond bytes
+  same-after-second : sizeAt bytes secondAt ≤ 1536 → afterSecond begin ≡ afterSecond bytes
   same-after-second second =
       let place = same-third second in
       same-next _ _ (thirdAt begin) (thirdAt bytes) (afterThird begin) (afterThird bytes)
       (ap (recordFault begin 3) place ∙ same-fault 3 (thirdAt bytes) (omega arith)) place
-      (λ none. same-after-third second (faces-most (passed bytes 3 (thirdAt bytes) none)))
+      (λ none. same-after-third second (passed bytes 3 (thirdAt bytes) none .size-most))
 
   same-after-options : afterOptions begin ≡ afterOptions bytes
   same-after-options =
-      same-next _ _ 18 18 (afterSecond begin) (afterSecond bytes) (same-fault 2 18 (omega arith)) refl
-      (λ none. same-after-second (points-most (passed bytes 2 18 none)))
+      same-next _ _ secondAt secondAt (afterSecond begin) (afterSecond bytes) (same-fault 2 secondAt (omega arith)) refl
+      (λ none. same-after-second (passed bytes 2 secondAt none .size-most))
 
   same-long : scanOf begin ≡ scanOf bytes
   unfolding scanOf

@@ -1,20 +1,42 @@
 -- How a file comes to be refused or good: which tests passed, and which did not.
 -- Assumes nothing.
 use Prim.Native.Nat.{ℕ, zero, suc, _≤_, _<_}
+use native.Mathlib.Omega.{arith}
 use mathlib.Core.Path.{_≡_, refl, sym}
 use mathlib.Core.List.{List}
+use mathlib.Core.Bool.{cond}
+use lib.Dec.{ltb}
 use lib.ListN.{length}
 use borrow.Author.Tests.{lt-ltb, le-ltb}
 use Rattle.scanfile.specs.declared.Head.{Head}
 use Rattle.scanfile.specs.declared.Scan.{Scan}
 use Rattle.scanfile.specs.declared.Scan.the-variants.{Good, Bad}
-use Rattle.scanfile.specs.Records.{recordFault, optionsFault}
-use Rattle.scanfile.specs.Scans.{thirdAt, endOf, headOf, refuse, scanOf}
+use Rattle.scanfile.specs.Layout.{secondAt, thirdAt, endOf}
+use Rattle.scanfile.specs.Faults.{recordFault, optionsFault}
+use Rattle.scanfile.specs.Scans.{headOf, refuse, scanOf}
+
+-- ---- the answer from each test on
+
+abbrev pub afterThird : List ℕ → Scan
+afterThird bytes = refuse (cond (ltb (endOf bytes) (length bytes)) 25 0) (endOf bytes) (Good (headOf bytes))
+
+abbrev pub afterSecond : List ℕ → Scan
+afterSecond bytes = refuse (recordFault bytes 3 (thirdAt bytes)) (thirdAt bytes) (afterThird bytes)
+
+abbrev pub afterOptions : List ℕ → Scan
+afterOptions bytes = refuse (recordFault bytes 2 secondAt) secondAt (afterSecond bytes)
+
+-- ---- one test
 
 -- any other number than 0 refuses
 refused : (n place : ℕ) (next : Scan) → (n ≡ 0 → ⊥) → refuse n place next ≡ Bad n place
 refused zero place next some = absurd (some refl)
 refused (suc n) place next some = refl
+
+-- what is good was not refused by the first test
+pub not-refused : (n place : ℕ) (next : Scan) (h : Head) → refuse n place next ≡ Good h → (n ≡ 0) × (next ≡ Good h)
+not-refused zero place next h e = (refl, e)
+not-refused (suc n) place next h e = let z : _≡_ {A = ℕ} 0 1 = cc in absurd (omega arith)
 
 -- ---- the answer by what came before it. n is the number that the test gave.
 
@@ -29,22 +51,27 @@ module _ (bytes : List ℕ) (n : ℕ) where
     options-refused e some = rw (first, ← e) (sym (refused n 0 _ some))
 
     module _ (options : optionsFault bytes ≡ 0) where
-      pub second-refused : n ≡ recordFault bytes 2 18 → (n ≡ 0 → ⊥) → Bad n 18 ≡ scanOf bytes
+      pub second-refused : n ≡ recordFault bytes 2 secondAt → (n ≡ 0 → ⊥) → Bad n 18 ≡ scanOf bytes
       unfolding scanOf
       second-refused e some = rw (first, options, ← e) (sym (refused n 18 _ some))
 
-      module _ (second : recordFault bytes 2 18 ≡ 0) where
+      module _ (second : recordFault bytes 2 secondAt ≡ 0) where
         pub third-refused : (place : ℕ) → place ≡ thirdAt bytes → n ≡ recordFault bytes 3 place → (n ≡ 0 → ⊥) → Bad n place ≡ scanOf bytes
         unfolding scanOf
         third-refused place here e some = rw (first, options, second, ← here, ← e) (sym (refused n place _ some))
 
-module _ (bytes : List ℕ)
-    (first : recordFault bytes 1 0 ≡ 0) (options : optionsFault bytes ≡ 0)
-    (second : recordFault bytes 2 18 ≡ 0) (third : recordFault bytes 3 (thirdAt bytes) ≡ 0) where
+-- no test refused a record or the options
+pub record NoneRefused (bytes : List ℕ) : Type 0 where
+  pub first : recordFault bytes 1 0 ≡ 0
+  pub options : optionsFault bytes ≡ 0
+  pub second : recordFault bytes 2 secondAt ≡ 0
+  pub third : recordFault bytes 3 (thirdAt bytes) ≡ 0
+
+module _ {bytes : List ℕ} (t : NoneRefused bytes) where
   pub spare-refused : (end : ℕ) → end ≡ endOf bytes → end < length bytes → Bad 25 end ≡ scanOf bytes
   unfolding scanOf
-  spare-refused end here spare = rw (first, options, second, third, ← here, lt-ltb end _ spare)
+  spare-refused end here spare = rw (t .first, t .options, t .second, t .third, ← here, lt-ltb end _ spare)
 
   pub all-good : (end : ℕ) → end ≡ endOf bytes → length bytes ≤ end → (h : Head) → h ≡ headOf bytes → Good h ≡ scanOf bytes
   unfolding scanOf
-  all-good end here none h e = rw (first, options, second, third, ← here, le-ltb end _ none, e)
+  all-good end here none h e = rw (t .first, t .options, t .second, t .third, ← here, le-ltb end _ none, e)

@@ -7,11 +7,12 @@ use lib.ListN.{take, set}
 use lib.IntN.{pos, negsuc}
 use lib.Ieee.{Float, nan, fin, ofBits}
 use Rattle.placement.specs.declared.Limit.the-variants.{Unlimited, AtMost}
+use Rattle.records.specs.Words.{numbersFrom}
 use Rattle.scanfile.specs.declared.Head.{Head}
 use Rattle.scanfile.specs.declared.Scan.{Scan}
 use Rattle.scanfile.specs.declared.Scan.the-variants.{Good, Bad}
 use Rattle.scanfile.specs.Scans.{scanOf}
-use Rattle.scanfile.specs.Contents.{numbersFrom, pointsOf, facesIn}
+use Rattle.scanfile.specs.Contents.{pointsOf, faceNumbersOf}
 
 -- 0.0, 1.0, 2.0 and 0.5
 abbrev o : Float
@@ -96,6 +97,6 @@ pub square-points : pointsOf square 5 ≡ o ∷ o ∷ o ∷ two ∷ o ∷ o ∷ 
 unfolding numbersFrom square ofBits
 square-points = refl
 
-pub square-faces : facesIn square 5 4 ≡ 0 ∷ 1 ∷ 4 ∷ 1 ∷ 2 ∷ 4 ∷ 2 ∷ 3 ∷ 4 ∷ 3 ∷ 0 ∷ 4 ∷ []
+pub square-faces : faceNumbersOf square 5 4 ≡ 0 ∷ 1 ∷ 4 ∷ 1 ∷ 2 ∷ 4 ∷ 2 ∷ 3 ∷ 4 ∷ 3 ∷ 0 ∷ 4 ∷ []
 unfolding numbersFrom square
 square-faces = refl

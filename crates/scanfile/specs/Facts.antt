@@ -1,11 +1,13 @@
 -- What is known of a good file. proofs/GoodLaws.antt shows that a file is good exactly when this holds.
-use Prim.Native.Nat.{ℕ, _+_, _*_, _≤_}
+use Prim.Native.Nat.{ℕ, _*_, _≤_}
 use mathlib.Core.Path.{_≡_}
 use mathlib.Core.Logic.{_⊎_}
 use mathlib.Core.List.{List}
 use lib.ListN.{length}
+use Rattle.records.specs.Records.{sizeAt, kindAt}
 use Rattle.scanfile.specs.declared.Head.{Head}
-use Rattle.scanfile.specs.Records.{sizeAt, kindAt, flagsIn}
+use Rattle.scanfile.specs.Layout.{secondAt, thirdAfter, endAfter}
+use Rattle.scanfile.specs.Faults.{flagsIn}
 use Rattle.scanfile.specs.Scans.{headOf}
 
 -- the file is good, and its head is h
@@ -13,12 +15,12 @@ pub record GoodFile (bytes : List ℕ) (h : Head) : Type 0 where
   pub head-is : h ≡ headOf bytes
   -- three records, of kinds 1, 2 and 3, and no byte more
   pub first-kind : kindAt bytes 0 ≡ 1
-  pub second-kind : kindAt bytes 18 ≡ 2
-  pub third-kind : kindAt bytes (24 + 12 * h .points) ≡ 3
+  pub second-kind : kindAt bytes secondAt ≡ 2
+  pub third-kind : kindAt bytes (thirdAfter (h .points)) ≡ 3
   pub first-size : sizeAt bytes 0 ≡ 12
-  pub second-size : sizeAt bytes 18 ≡ 12 * h .points
-  pub third-size : sizeAt bytes (24 + 12 * h .points) ≡ 12 * h .faces
-  pub whole : length bytes ≡ 30 + 12 * h .points + 12 * h .faces
+  pub second-size : sizeAt bytes secondAt ≡ 12 * h .points
+  pub third-size : sizeAt bytes (thirdAfter (h .points)) ≡ 12 * h .faces
+  pub whole : length bytes ≡ endAfter (h .points) (h .faces)
   -- the limits of the program
   pub points-most : h .points ≤ 128
   pub faces-most : h .faces ≤ 256

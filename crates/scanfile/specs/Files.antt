@@ -6,22 +6,13 @@ use mathlib.Core.List.{List, [], _∷_, _++_}
 use lib.Dec.{eqb}
 use lib.ListN.{length}
 use lib.Ieee.{binary32, ofBits}
+use Rattle.placement.specs.Choices.{limitOf}
+use Rattle.records.specs.Words.{fourBytes, numbersFrom, asTwo, asFour, asFours}
+use Rattle.records.specs.Records.{Record, recordsBytes}
 use Rattle.scanfile.specs.declared.Head.{Head}
-use Rattle.scanfile.specs.Words.{fourBytes}
-use Rattle.scanfile.specs.Records.{unitIn, flagsIn}
-use Rattle.scanfile.specs.Scans.{limitOf}
-use Rattle.scanfile.specs.Contents.{numbersFrom, facesIn}
-
--- a number as two and as four bytes, the lowest first
-abbrev pub asTwo : ℕ → List ℕ
-asTwo n = n % 256 ∷ n / 256 ∷ []
-
-abbrev pub asFour : ℕ → List ℕ
-asFour n = asTwo (n % 65536) ++ asTwo (n / 65536)
-
-unfoldable pub asFours : List ℕ → List ℕ
-asFours [] = []
-asFours (n ∷ ns) = asFour n ++ asFours ns
+use Rattle.scanfile.specs.Layout.{ratioAt, limitAt, pointsAt}
+use Rattle.scanfile.specs.Faults.{unitIn, flagsIn}
+use Rattle.scanfile.specs.Contents.{faceNumbersOf}
 
 -- what a file holds: floats by their patterns, and three numbers for each point and face
 pub record Contents : Type 0 where
@@ -32,12 +23,21 @@ pub record Contents : Type 0 where
   pub points : List ℕ
   pub faces : List ℕ
 
--- each record is a 4-byte payload length, a 2-byte kind, the payload
+-- kind 1: unit u16, flags u16, ratio f32, limit f32
+abbrev pub optionsRecord : Contents → Record
+optionsRecord c = record { kind = 1; payload = asTwo (c .unit) ++ (asTwo (c .flags) ++ (asFour (c .ratio) ++ asFour (c .limit))) }
+
+-- kind 2: points
+abbrev pub pointsRecord : Contents → Record
+pointsRecord c = record { kind = 2; payload = asFours (c .points) }
+
+-- kind 3: faces
+abbrev pub facesRecord : Contents → Record
+facesRecord c = record { kind = 3; payload = asFours (c .faces) }
+
+-- in that order, once each
 abbrev pub fileOf : Contents → List ℕ
-fileOf c =
-    asFour 12 ++ (asTwo 1 ++ (asTwo (c .unit) ++ (asTwo (c .flags) ++ (asFour (c .ratio) ++ (asFour (c .limit)
-    ++ (asFour (4 * length (c .points)) ++ (asTwo 2 ++ (asFours (c .points)
-    ++ (asFour (4 * length (c .faces)) ++ (asTwo 3 ++ (asFours (c .faces) ++ [])))))))))))
+fileOf c = recordsBytes (optionsRecord c ∷ pointsRecord c ∷ facesRecord c ∷ [])
 
 -- what a good file may hold, with v points and f faces
 pub record Writable (c : Contents) (v f : ℕ) : Type 0 where
@@ -66,8 +66,8 @@ contentsOf bytes v f =
     record {
       unit = unitIn bytes;
       flags = flagsIn bytes;
-      ratio = fourBytes bytes 10;
-      limit = fourBytes bytes 14;
-      points = numbersFrom bytes 24 (3 * v);
-      faces = facesIn bytes v f;
+      ratio = fourBytes bytes ratioAt;
+      limit = fourBytes bytes limitAt;
+      points = numbersFrom bytes pointsAt (3 * v);
+      faces = faceNumbersOf bytes v f;
     }

@@ -1,19 +1,27 @@
 // The reader of document 01's file: three records, little-endian. It answers for any bytes, as scanOf of specs/Scans.antt says.
 ghost use mathlib.Core.Path.{_≡_};
-ghost use Prim.Native.Nat.{_+_, _*_, _≤_};
-ghost use lib.ListN.{length};
-ghost use Rattle.scanfile.specs.Scans.{thirdAt, limitOf, headOf, scanOf};
-ghost use Rattle.scanfile.specs.Contents.{pointsOf, facesIn, over};
+ghost use Rattle.scanfile.specs.Scans.{headOf, scanOf};
+ghost use Rattle.scanfile.specs.Contents.{pointsOf, faceNumbersOf};
+ghost use Rattle.lists.specs.Frames.{overlaid};
+ghost use Rattle.scanfile.specs.Contracts.{HeadsThere, PointsThere, FacesThere};
+use faults::options_fault;
+use faults::record_fault;
+use layout::FLAGS_AT;
+use layout::LIMIT_AT;
+use layout::POINTS_AT;
+use layout::RATIO_AT;
+use layout::SECOND_AT;
+use layout::UNIT_AT;
 use placement::Limit;
-use records::options_fault;
-use records::record_fault;
-use words::float_at;
-use words::four_bytes;
-use words::two_bytes;
+use placement::limit_of;
+use records::HEAD_LENGTH;
+use records::float_at;
+use records::four_bytes;
+use records::two_bytes;
 
-mod records;
+mod faults;
+mod layout;
 mod told;
-mod words;
 
 // The longest good file: three heads of 6 bytes, 12 bytes of options, 128 points and 256 faces of 12 bytes each.
 pub const MOST_BYTES: usize = 4638;
@@ -36,30 +44,19 @@ pub enum Scan {
     Bad(u32, u32),
 }
 
-// A limit only where there is one.
-fn limit_of(limited: bool, limit: f32) -> Limit
-    ensures { λ r. ⌜ r ≡ limitOf limited limit ⌝ }
-{
-    if limited {
-        Limit::AtMost(limit)
-    } else {
-        Limit::Unlimited
-    }
-}
-
 // The head of a good file, whose third record starts at an offset.
 fn head_of(bytes: &[u8], third: usize) -> Head
-    requires { ⌜ (24 ≤ length (now bytes)) × (third + 6 ≤ length (now bytes)) × (third ≡ thirdAt (now bytes)) ⌝ }
+    requires { ⌜ HeadsThere (now bytes) third ⌝ }
     ensures { λ r. ⌜ r ≡ headOf (now (bytes .entry)) ⌝ }
 {
-    let flags = two_bytes(bytes, 8);
-    let limit = limit_of(flags / 2 % 2 == 1, float_at(bytes, 14));
+    let flags = two_bytes(bytes, FLAGS_AT);
+    let limit = limit_of(flags / 2 % 2 == 1, float_at(bytes, LIMIT_AT));
     Head {
-        unit: two_bytes(bytes, 6),
+        unit: two_bytes(bytes, UNIT_AT),
         preserve: flags % 2 == 1,
         limit,
-        ratio: float_at(bytes, 10),
-        points: four_bytes(bytes, 18) as usize / 12,
+        ratio: float_at(bytes, RATIO_AT),
+        points: four_bytes(bytes, SECOND_AT) as usize / 12,
         faces: four_bytes(bytes, third) as usize / 12,
     }
 }
@@ -76,16 +73,16 @@ pub fn read_scan(bytes: &[u8]) -> Scan
     if options != 0 {
         return Scan::Bad(options, 0);
     }
-    let second = record_fault(bytes, 2, 18);
+    let second = record_fault(bytes, 2, SECOND_AT);
     if second != 0 {
-        return Scan::Bad(second, 18);
+        return Scan::Bad(second, SECOND_AT as u32);
     }
-    let at = 24 + four_bytes(bytes, 18) as usize;
+    let at = POINTS_AT + four_bytes(bytes, SECOND_AT) as usize;
     let third = record_fault(bytes, 3, at);
     if third != 0 {
         return Scan::Bad(third, at as u32);
     }
-    let end = at + 6 + four_bytes(bytes, at) as usize;
+    let end = at + HEAD_LENGTH + four_bytes(bytes, at) as usize;
     if end < bytes.len() {
         return Scan::Bad(25, end as u32);
     }
@@ -94,18 +91,18 @@ pub fn read_scan(bytes: &[u8]) -> Scan
 
 // Reads the coordinates of so many points, three each, to the beginning of out.
 pub fn read_points(bytes: &[u8], points: usize, out: &mut [f32])
-    requires { ⌜ (24 + 12 * points ≤ length (now bytes)) × (3 * points ≤ length (now out)) ⌝ }
-    ensures { λ _. ⌜ now (out .exit) ≡ over (pointsOf (now (bytes .entry)) points) (now (out .entry)) ⌝ }
+    requires { ⌜ PointsThere (now bytes) points (now out) ⌝ }
+    ensures { λ _. ⌜ now (out .exit) ≡ overlaid (pointsOf (now (bytes .entry)) points) (now (out .entry)) ⌝ }
 {
     for i in 0..3 * points {
-        out[i] = float_at(bytes, 24 + 4 * i);
+        out[i] = float_at(bytes, POINTS_AT + 4 * i);
     }
 }
 
 // Reads the point numbers of so many faces, three each, to the beginning of out. The faces stand behind so many points.
 pub fn read_faces(bytes: &[u8], points: usize, faces: usize, out: &mut [u32])
-    requires { ⌜ (30 + 12 * points + 12 * faces ≤ length (now bytes)) × (3 * faces ≤ length (now out)) ⌝ }
-    ensures { λ _. ⌜ now (out .exit) ≡ over (facesIn (now (bytes .entry)) points faces) (now (out .entry)) ⌝ }
+    requires { ⌜ FacesThere (now bytes) points faces (now out) ⌝ }
+    ensures { λ _. ⌜ now (out .exit) ≡ overlaid (faceNumbersOf (now (bytes .entry)) points faces) (now (out .entry)) ⌝ }
 {
     for i in 0..3 * faces {
         out[i] = four_bytes(bytes, 30 + 12 * points + 4 * i);

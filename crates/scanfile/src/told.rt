@@ -5,12 +5,15 @@ ghost use Prim.Native.Nat.{ℕ, _≤_};
 ghost use lib.ListN.{length};
 ghost use Rattle.scanfile.specs.declared.Scan.{Scan};
 ghost use Rattle.scanfile.specs.Scans.{scanOf};
+ghost use Rattle.scanfile.specs.Contracts.{Tellable};
 ghost use Rattle.scanfile.specs.Told.{numberOf, limited, limitPattern, cellsOf};
 use crate::Head;
 use crate::Scan;
+use crate::layout::LIMIT_AT;
+use crate::layout::RATIO_AT;
 use crate::read_scan;
-use crate::words::four_bytes;
 use placement::Limit;
+use records::four_bytes;
 
 // 1 where there is a limit.
 fn is_limited(limit: Limit) -> u32
@@ -29,7 +32,7 @@ fn limit_pattern(bytes: &[u8], limit: Limit) -> u32
 {
     match limit {
         Limit::Unlimited => 0,
-        Limit::AtMost(_) => four_bytes(bytes, 14),
+        Limit::AtMost(_) => four_bytes(bytes, LIMIT_AT),
     }
 }
 
@@ -42,7 +45,7 @@ fn yes_as_one(yes: bool) -> u32
 
 // The cells of a good file.
 fn tell_good(bytes: &[u8], h: Head, cells: &mut [u32; 8])
-    requires { ⌜ (18 ≤ length (now bytes)) × (h .points ≤ 128) × (h .faces ≤ 256) ⌝ }
+    requires { ⌜ Tellable (now bytes) h ⌝ }
     ensures { λ _. ⌜ now (cells .exit) ≡ cellsOf (now (bytes .entry)) (Scan.Good h) ⌝ }
 {
     let limit = h.limit;
@@ -51,7 +54,7 @@ fn tell_good(bytes: &[u8], h: Head, cells: &mut [u32; 8])
         yes_as_one(h.preserve),
         is_limited(limit),
         limit_pattern(bytes, limit),
-        four_bytes(bytes, 10),
+        four_bytes(bytes, RATIO_AT),
         h.points as u32,
         h.faces as u32,
         0,

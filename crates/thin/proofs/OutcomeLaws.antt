@@ -29,11 +29,11 @@ unfolding partsIn
 parts-length rules m [] = refl
 parts-length rules m (x ∷ xs) = omega (arith, parts-length rules m xs)
 
-thinned-counted : (i : Input) (preserve : Bool) → Counted (thinnedOutcome i preserve)
-thinned-counted i preserve =
-    let faces = lastMesh i preserve .faces in
+thinned-counted : (i : Input) → Counted (thinnedOutcome i)
+thinned-counted i =
+    let faces = lastMesh i .faces in
     record {
-      points = parts-length (rulesIn i) (lastMesh i preserve) (used [] faces);
+      points = parts-length (rulesIn i) (lastMesh i) (used [] faces);
       faces = omega (arith, length-numbers (renumbered faces), length-renumbered faces);
     }
 
@@ -48,18 +48,18 @@ stuck-counted borders = by (ltb 0 borders)
 
 -- ---- any outcome
 
-by-verdict : (d : Verdict) (i : Input) (preserve : Bool) → verdictOf i ≡ d → Counted (outcomeBy d i preserve)
+by-verdict : (d : Verdict) (i : Input) → verdictOf i ≡ d → Counted (outcomeBy d i)
 unfolding outcomeBy
-by-verdict (Refused number place) i preserve e = record { points = refl; faces = refl }
-by-verdict Copied i preserve e =
+by-verdict (Refused number place) i e = record { points = refl; faces = refl }
+by-verdict Copied i e =
     let sized = verdicts.copied i e .sized in
     record { points = sized .points-by-three; faces = sized .faces-by-three }
-by-verdict Admitted i preserve e = by (stuck i preserve)
+by-verdict Admitted i e = by (stuck i)
   where
-    by : (held : Bool) → Counted (cond held (record { answer = stuckAnswer (bordersHeld i preserve); points = []; faces = []; worked = true }) (thinnedOutcome i preserve))
-    by true = stuck-counted (bordersHeld i preserve)
-    by false = thinned-counted i preserve
+    by : (held : Bool) → Counted (cond held (record { answer = stuckAnswer (bordersHeld i); points = []; faces = []; worked = true }) (thinnedOutcome i))
+    by true = stuck-counted (bordersHeld i)
+    by false = thinned-counted i
 
-pub counted : (i : Input) (preserve : Bool) → Counted (outcome i preserve)
+pub counted : (i : Input) → Counted (outcome i)
 unfolding outcome
-counted i preserve = by-verdict (verdictOf i) i preserve refl
+counted i = by-verdict (verdictOf i) i refl

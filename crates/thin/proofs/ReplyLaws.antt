@@ -10,45 +10,47 @@ use lib.Seq.{take-at}
 use lib.Ieee.{Float, binary32, ofBits}
 use borrow.Author.Tests.{le-leb}
 use Rattle.meaning.specs.declared.Answer.{Answer}
-use Rattle.meaning.specs.Call.{inputOf}
+use Rattle.meaning.specs.Call.{Lent, inputOf}
 use Rattle.meaning.specs.Outcome.{Outcome}
-use Rattle.listing.specs.declared.Listed.{Listed}
-use Rattle.listing.specs.declared.Listed.the-variants.{Bytes}
+use Rattle.listing.specs.declared.Printed.{Printed}
+use Rattle.listing.specs.declared.Printed.the-variants.{Bytes}
 use Rattle.listing.specs.Texts.{refusalText, meshText, refusalFits, meshFits}
-use Rattle.listing.specs.Written.{over, Lists}
+use Rattle.lists.specs.Frames.{overlaid}
+use Rattle.listing.specs.Written.{Prints}
 use Rattle.listing.proofs.TextLaws.{refusal-room, enough-room}
+use Rattle.records.specs.Words.{numbersFrom}
+use Rattle.records.proofs.WordLaws.{numbers-count}
 use Rattle.scanfile.specs.declared.Head.{Head}
-use Rattle.scanfile.specs.Contents.{numbersFrom, pointsOf, facesIn}
-use Rattle.scanfile.specs.Contents as contents
-use Rattle.scanfile.proofs.ContentLaws.{numbers-count}
-use Rattle.thin.specs.Replies.{textBy, answerText, outcomeText, callOf, sizeIn, Texted, Shown}
+use Rattle.scanfile.specs.Layout.{pointsAt, facesAt}
+use Rattle.scanfile.specs.Contents.{pointsOf, faceNumbersOf}
+use Rattle.thin.specs.Replies.{textBy, answerText, outcomeText, optionsOf, callOf, sizeIn, Texted, Shown}
 use Rattle.thin.proofs.OutcomeLaws.{Counted}
 
 -- ---- a listing is a text
 
 -- what fits is written whole
-texted : {fits : Bool} {text old new : List ℕ} {l : Listed} {r : ℕ} → fits ≡ true → length text ≤ length old → Lists fits text old new l → r ≡ sizeIn l →
+texted : {fits : Bool} {text old new : List ℕ} {l : Printed} {r : ℕ} → fits ≡ true → length text ≤ length old → Prints fits text old new l → r ≡ sizeIn l →
     Texted text old new r
 texted {fits} {text} {old} {new} {l} {r} large room done size =
-    let listed : l ≡ Bytes (length text) = rw large at (done .answered) in
-    let stands : new ≡ over text old = rw large at (done .written) in
-    let count : r ≡ length text = size ∙ ap sizeIn listed in
-    let long : length new ≡ length (over text old) = ap length stands in
+    let printed : l ≡ Bytes (length text) = rw large at (done .answered) in
+    let stands : new ≡ overlaid text old = rw large at (done .written) in
+    let count : r ≡ length text = size ∙ ap sizeIn printed in
+    let long : length new ≡ length (overlaid text old) = ap length stands in
     record {
       written = stands;
       counted = count;
       within = omega (arith, length-append text (drop (length text) old));
     }
 
-pub refusal-texted : (number place : ℕ) {old new : List ℕ} {l : Listed} {r : ℕ} → 12288 ≤ length old →
-    Lists (refusalFits (length old)) (refusalText number place) old new l → r ≡ sizeIn l → Texted (refusalText number place) old new r
+pub refusal-texted : (number place : ℕ) {old new : List ℕ} {l : Printed} {r : ℕ} → 12288 ≤ length old →
+    Prints (refusalFits (length old)) (refusalText number place) old new l → r ≡ sizeIn l → Texted (refusalText number place) old new r
 refusal-texted number place {old} room done size =
     let text-short : length (refusalText number place) ≤ length old = omega (arith, refusal-room number place) in
     texted (le-leb 35 (length old) (omega arith)) text-short done size
 
-pub mesh-texted : (unit folds : ℕ) (points : List Float) (faces : List ℕ) {old new : List ℕ} {l : Listed} {r : ℕ} → 12288 ≤ length old →
+pub mesh-texted : (unit folds : ℕ) (points : List Float) (faces : List ℕ) {old new : List ℕ} {l : Printed} {r : ℕ} → 12288 ≤ length old →
     length points ≤ 384 → length faces ≤ 768 →
-    Lists (meshFits (length old) (length points / 3) (length faces / 3)) (meshText unit folds points faces) old new l → r ≡ sizeIn l →
+    Prints (meshFits (length old) (length points / 3) (length faces / 3)) (meshText unit folds points faces) old new l → r ≡ sizeIn l →
     Texted (meshText unit folds points faces) old new r
 mesh-texted unit folds points faces {old} room points-most faces-most done size =
     let v = length points / 3 in
@@ -74,23 +76,24 @@ mesh-text (suc n) mesh refusal none = absurd (omega arith)
 
 module _ {A : Type 0} (new old : List A) (n : ℕ) (long : length new ≡ n) where
   -- is all there
-  pub over-there : {cells : List A} → cells ≡ contents.over new old → n ≤ length cells
-  over-there {cells} e = let same : length cells ≡ length (contents.over new old) = ap length e in omega (arith, length-append new (drop (length new) old))
+  pub over-there : {cells : List A} → cells ≡ overlaid new old → n ≤ length cells
+  over-there {cells} e = let same : length cells ≡ length (overlaid new old) = ap length e in omega (arith, length-append new (drop (length new) old))
 
   -- and is what is taken from there
-  pub over-taken : {cells : List A} → cells ≡ contents.over new old → take n cells ≡ new
+  pub over-taken : {cells : List A} → cells ≡ overlaid new old → take n cells ≡ new
   over-taken e = ap (take n) e ∙ take-at new (drop (length new) old) n long
 
 -- ---- the library's call
 
-module _ (head : Head) (points a : List Float) (faces b u : List ℕ) (p q : List Float) where
-  -- with the program's memory the input is the one that the reply names
-  pub same-call : 384 ≡ length a → 768 ≡ length b → 10240 ≡ length u → 3584 ≡ length p → 3584 ≡ length q →
-      inputOf points faces (head .ratio) (head .limit) a b u p q ≡ callOf head points faces
-  same-call a-long b-long u-long p-long q-long = rw (sym a-long, sym b-long, sym u-long, sym p-long, sym q-long) refl
+-- with the program's memory the input is the one that the reply names
+pub same-call : (head : Head) (points : List Float) (faces : List ℕ) (memory : Lent) → 384 ≡ length (memory .points) → 768 ≡ length (memory .faces) →
+    10240 ≡ length (memory .u32s) → 3584 ≡ length (memory .f32s) → 3584 ≡ length (memory .f64s) →
+    inputOf points faces (optionsOf head) memory ≡ callOf head points faces
+same-call head points faces memory points-long faces-long u32s-long f32s-long f64s-long =
+    rw (sym points-long, sym faces-long, sym u32s-long, sym f32s-long, sym f64s-long) refl
 
 module _ (o : Outcome) (whole : Counted o) {r : Answer} (points : List Float) {points' : List Float} (faces : List ℕ) {faces' : List ℕ} (answered : r ≡ o .answer)
-    (points-out : points' ≡ contents.over (o .points) points) (faces-out : faces' ≡ contents.over (o .faces) faces) where
+    (points-out : points' ≡ overlaid (o .points) points) (faces-out : faces' ≡ overlaid (o .faces) faces) where
   points-count : length (o .points) ≡ 3 * r .points
   points-count = rw answered (whole .points)
 
@@ -119,7 +122,7 @@ module _ (o : Outcome) (whole : Counted o) {r : Answer} (points : List Float) {p
 -- ---- the file's mesh
 
 pub points-length : (bytes : List ℕ) (v : ℕ) → length (pointsOf bytes v) ≡ 3 * v
-points-length bytes v = length-map (numbersFrom bytes 24 (3 * v)) (ofBits binary32) ∙ numbers-count bytes 24 (3 * v)
+points-length bytes v = length-map (numbersFrom bytes pointsAt (3 * v)) (ofBits binary32) ∙ numbers-count bytes pointsAt (3 * v)
 
-pub faces-length : (bytes : List ℕ) (v f : ℕ) → length (facesIn bytes v f) ≡ 3 * f
-faces-length bytes v f = numbers-count bytes (30 + 12 * v) (3 * f)
+pub faces-length : (bytes : List ℕ) (v f : ℕ) → length (faceNumbersOf bytes v f) ≡ 3 * f
+faces-length bytes v f = numbers-count bytes (facesAt v) (3 * f)

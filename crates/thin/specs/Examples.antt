@@ -21,19 +21,21 @@ use Rattle.walk.specs.Faces.{borderPoint, borderCount}
 use Rattle.walk.specs.Fold.{foldedFaces, foldedMesh}
 use Rattle.walk.specs.FoldTest.{fairFace, allowed}
 use Rattle.walk.specs.Pairs.{pairsBelow, order, least, opened}
-use Rattle.walk.specs.Walk.{foldOf, budget, started, tried, chosen, answer, after, walk, foldList}
+use Rattle.walk.specs.Machines.{walk, foldList}
+use Rattle.walk.specs.Walk.{foldOf, budget, started, tried, chosen, answer, after}
 use Rattle.walk.specs.Output.{used, placeIn, renumbered, numbersOf}
 use Rattle.meaning.specs.Arithmetic.{fairPoints, mergedVertex, rulesOf}
 use Rattle.meaning.specs.Start.{gathered, startMesh}
 use Rattle.meaning.specs.Answers.{faceVerdict, contentsVerdict, verdictOf}
 use Rattle.meaning.specs.Outcome.{startOf, targetOf, lastMesh, foldsWalked, partsIn, outcomeBy, outcome}
-use Rattle.scanfile.specs.Words.{fourBytes}
-use Rattle.scanfile.specs.Records.{recordFault, optionsFault}
+use Rattle.records.specs.Words.{fourBytes, numbersFrom, asFours}
+use Rattle.records.specs.Records.{recordsBytes}
+use Rattle.scanfile.specs.Faults.{recordFault, optionsFault}
 use Rattle.scanfile.specs.Scans.{scanOf}
-use Rattle.scanfile.specs.Contents.{numbersFrom}
-use Rattle.scanfile.specs.Files.{asFours, fileOf}
-use Rattle.listing.specs.Digits.{digits, places, decimal, eightDigits}
-use Rattle.listing.specs.Texts.{linesTo, refusalText, headText, meshText}
+use Rattle.scanfile.specs.Files.{fileOf}
+use Rattle.text.specs.Digits.{digits, digitCount, decimal}
+use Rattle.text.specs.Lines.{linesTo}
+use Rattle.listing.specs.Texts.{refusalText, headText, meshText}
 use Rattle.listing.specs.Examples.{squareListing, refusalListing}
 use Rattle.thin.specs.Replies.{replyBy, replyOf}
 
@@ -52,5 +54,5 @@ squareFile flags =
 
 -- its listing, and its refusal with preserve on
 pub examples-hold : map replyOf (squareFile 0 ∷ squareFile 1 ∷ []) ≡ squareListing ∷ refusalListing ∷ []
-unfolding outcome outcomeBy partsIn foldsWalked lastMesh targetOf startOf startMesh gathered rulesOf mergedVertex fairPoints numbersOf renumbered placeIn used foldList walk after answer chosen tried opened started least order budget foldOf pairsBelow foldedMesh allowed fairFace foldedFaces borderCount borderPoint without those every some below lists.sum placeOf fallback cheaper tested stands solved eligible pairCost pairPlace pairLength pairQuadric inverse errorAt planeOf unitNormal allFinite normal norm root rootBits finiteRoot bitsRoot.largest halfway fourfold steps floatKey orderKey narrowed cut target flatMap verdictOf contentsVerdict faceVerdict firstOf span climb size odd units round neg ieee.sum add sub mul div lt eq le ofInt toUnsigned isNan ofFields ofBits toBits replyOf replyBy asFours scanOf recordFault optionsFault fourBytes numbersFrom meshText headText refusalText linesTo eightDigits decimal places digits
+unfolding outcome outcomeBy partsIn foldsWalked lastMesh targetOf startOf startMesh gathered rulesOf mergedVertex fairPoints numbersOf renumbered placeIn used foldList walk after answer chosen tried opened started least order budget foldOf pairsBelow foldedMesh allowed fairFace foldedFaces borderCount borderPoint without those every some below lists.sum placeOf fallback cheaper tested stands solved eligible pairCost pairPlace pairLength pairQuadric inverse errorAt planeOf unitNormal allFinite normal norm root rootBits finiteRoot bitsRoot.largest halfway fourfold steps floatKey orderKey narrowed cut target flatMap verdictOf contentsVerdict faceVerdict firstOf span climb size odd units round neg ieee.sum add sub mul div lt eq le ofInt toUnsigned isNan ofFields ofBits toBits replyOf replyBy asFours recordsBytes scanOf recordFault optionsFault fourBytes numbersFrom meshText headText refusalText linesTo decimal digitCount digits
 examples-hold = refl

@@ -6,17 +6,18 @@ use lib.ListN.{length}
 use lib.Ieee.{Float}
 use Rattle.meaning.specs.Input.{Input}
 use Rattle.meaning.specs.declared.Answer.{Answer}
-use Rattle.meaning.specs.Call.{largest}
+use Rattle.meaning.specs.declared.Options.{Options}
+use Rattle.meaning.specs.Call.{coordinateBound}
 use Rattle.meaning.specs.Outcome.{Outcome, outcome}
 use Rattle.scanfile.specs.declared.Head.{Head}
 use Rattle.scanfile.specs.declared.Scan.{Scan}
 use Rattle.scanfile.specs.declared.Scan.the-variants.{Good, Bad}
 use Rattle.scanfile.specs.Scans.{scanOf}
-use Rattle.scanfile.specs.Contents.{pointsOf, facesIn}
-use Rattle.listing.specs.declared.Listed.{Listed}
-use Rattle.listing.specs.declared.Listed.the-variants.{Bytes, NoRoom}
+use Rattle.scanfile.specs.Contents.{pointsOf, faceNumbersOf}
+use Rattle.listing.specs.declared.Printed.{Printed}
+use Rattle.listing.specs.declared.Printed.the-variants.{Bytes, NoRoom}
 use Rattle.listing.specs.Texts.{refusalText, meshText}
-use Rattle.listing.specs.Written.{over}
+use Rattle.lists.specs.Frames.{overlaid}
 use Rattle.thin.specs.declared.Got.{Got}
 use Rattle.thin.specs.declared.Got.the-variants as got
 
@@ -35,6 +36,10 @@ answerText unit r points faces = textBy (r .number) (meshText unit (r .folds) po
 abbrev pub outcomeText : ℕ → Outcome → List ℕ
 outcomeText unit o = answerText unit (o .answer) (o .points) (o .faces)
 
+-- the options that a file's head has
+abbrev pub optionsOf : Head → Options
+optionsOf head = record { ratio = head .ratio; preserve = head .preserve; limit = head .limit }
+
 -- what the library is handed: the mesh, the options, and memory for 128 points and 256 faces
 abbrev pub callOf : Head → List Float → List ℕ → Input
 callOf head points faces =
@@ -42,9 +47,8 @@ callOf head points faces =
       points = points;
       faces = faces;
       rooms = record { points = 384; faces = 768; u32s = 10240; f32s = 3584; f64s = 3584 };
-      ratio = head .ratio;
-      limit = head .limit;
-      bound = largest;
+      options = optionsOf head;
+      bound = coordinateBound;
     }
 
 -- the reply to a file that is refused, and to one that is good
@@ -52,7 +56,7 @@ unfoldable pub replyBy : List ℕ → Scan → List ℕ
 replyBy bytes (Bad number place) = refusalText number place
 replyBy bytes (Good head) =
     outcomeText (head .unit)
-    (outcome (callOf head (pointsOf bytes (head .points)) (facesIn bytes (head .points) (head .faces))) (head .preserve))
+    (outcome (callOf head (pointsOf bytes (head .points)) (faceNumbersOf bytes (head .points) (head .faces))))
 
 -- the reply to any bytes
 unfoldable pub replyOf : List ℕ → List ℕ
@@ -61,13 +65,13 @@ replyOf bytes = replyBy bytes (scanOf bytes)
 -- ---- what the program's functions ask and leave
 
 -- how many bytes a listing took
-abbrev pub sizeIn : Listed → ℕ
+abbrev pub sizeIn : Printed → ℕ
 sizeIn (Bytes n) = n
 sizeIn NoRoom = 0
 
 -- a text stands at the beginning, the rest is as it came, and the answer is the text's length
 pub record Texted (text old new : List ℕ) (r : ℕ) : Type 0 where
-  pub written : new ≡ over text old
+  pub written : new ≡ overlaid text old
   pub counted : r ≡ length text
   pub within : r ≤ length new
 

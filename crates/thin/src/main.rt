@@ -11,10 +11,12 @@ ghost use Rattle.thin.specs.Replies.{sizeIn, answerText, callOf, outcome
 use libc::STDERR_FILENO;
 use libc::STDIN_FILENO;
 use libc::STDOUT_FILENO;
-use listing::Listed;
+use listing::Printed;
 use meaning::Answer;
+use meaning::Options;
 use scanfile::Head;
 use scanfile::Scan;
+use thinning::Engine;
 
 // ---- memory, of which only the lengths matter
 
@@ -70,12 +72,12 @@ fn work_f64_cells() -> [f64; 3584]
 // ---- from a file's bytes to the text
 
 // How many bytes a listing took.
-fn size_in(listed: Listed) -> usize
-    ensures { λ r. ⌜ r ≡ sizeIn listed ⌝ }
+fn size_in(printed: Printed) -> usize
+    ensures { λ r. ⌜ r ≡ sizeIn printed ⌝ }
 {
-    match listed {
-        Listed::Bytes(n) => n,
-        Listed::NoRoom => 0,
+    match printed {
+        Printed::Bytes(n) => n,
+        Printed::NoRoom => 0,
     }
 }
 
@@ -117,25 +119,31 @@ fn write_answer(out: &mut [u8], unit: u32, answer: Answer, points: &[f32], faces
 // Thins a mesh and writes the listing of the outcome.
 fn write_thinned(out: &mut [u8], head: Head, points: &[f32], faces: &[u32]) -> usize
     requires { ⌜ 12288 ≤ length (now out) ⌝ }
-    ensures { λ r. ⌜ Texted (outcomeText (head .unit) (outcome (callOf head (now (points .entry)) (now (faces .entry))) (head .preserve))) (now (out .entry)) (now (out .exit)) r ⌝ }
+    ensures { λ r. ⌜ Texted (outcomeText (head .unit) (outcome (callOf head (now (points .entry)) (now (faces .entry))))) (now (out .entry)) (now (out .exit)) r ⌝ }
 {
     let mut out_points = point_cells();
     let mut out_faces = face_cells();
     let mut work_u32 = work_u32_cells();
     let mut work_f32 = work_f32_cells();
     let mut work_f64 = work_f64_cells();
+    let mut folds = [0u32; 1];
     let limit = head.limit;
+    let options = Options {
+        ratio: head.ratio,
+        preserve: head.preserve,
+        limit: limit,
+    };
     let answer = thinning::thin(
+        Engine::Heap,
         points,
         faces,
-        head.ratio,
-        head.preserve,
-        limit,
+        options,
         &mut out_points,
         &mut out_faces,
         &mut work_u32,
         &mut work_f32,
         &mut work_f64,
+        &mut folds,
     );
     write_answer(out, head.unit, answer, &out_points, &out_faces)
 }

@@ -1,32 +1,28 @@
--- An admitted call, stage by stage: what each stage asks, and at the end what document 01 says of the input.
+-- An admitted call: what its last stage asks, and what the stages leave is what document 01 says of the input.
 -- Assumes nothing.
-use Prim.Native.Nat.{ℕ, _+_, _*_, _≤_}
+use Prim.Native.Nat.{ℕ, _*_, _≤_}
 use native.Mathlib.Omega.{arith}
-use mathlib.Core.Path.{_≡_, refl, ap, _∙_}
+use mathlib.Core.Path.{_≡_, refl, _∙_}
 use mathlib.Core.List.{List}
-use mathlib.Core.Bool.{Bool, true}
+use mathlib.Core.Bool.{true}
 use lib.Ieee.{Float}
 use lib.ListN.{length}
-use Rattle.walk.specs.declared.Pair.{Pair}
-use Rattle.walk.specs.Faces.{facesOf}
-use Rattle.memory.specs.Memory.{liveFaces}
-use Rattle.mesh.specs.Contracts.Chains.{Tidy}
+use Rattle.lists.specs.Frames.{overlaid}
 use Rattle.lists.proofs.FrameLaws.{but-widen}
-use Rattle.plainwalk.specs.declared.Walked.{Walked}
 use Rattle.plainwalk.specs.Steps.{Within}
-use Rattle.memory.specs.Entries.{foldsIn}
-use Rattle.plainwalk.specs.Whole.{WalkDone}
-use Rattle.plainwalk.proofs.Theorems.{plain-walk-fewer}
+use Rattle.meaning.specs.declared.Answer.{Answer}
+use Rattle.meaning.specs.declared.Options.{Options}
 use Rattle.meaning.specs.declared.Verdict.the-variants.{Admitted}
 use Rattle.meaning.specs.Input.{Input, pointsIn, facesIn}
 use Rattle.meaning.specs.Answers.{verdictOf}
-use Rattle.meaning.specs.declared.Answer.{Answer}
-use Rattle.meaning.specs.Outcome.{targetOf, Outcome, outcome, foldsOf}
-use Rattle.meaning.specs.Call.{Leaves, listed}
-use Rattle.thinning.specs.Contracts.{Working, LaidOut, outcomeIn, Finished, Zeroed}
-use Rattle.thinning.proofs.FrameLaws.{within-then, working-within, zeroed-within}
-use Rattle.thinning.proofs.LaidLaws.{borders-few}
-use Rattle.thinning.proofs.WalkedLaws.{folds-are, outcome-is, outcome-worked}
+use Rattle.meaning.specs.Outcome.{startOf, targetOf, lastMesh, foldsWalked, Outcome, foldsBy, foldsOf}
+use Rattle.meaning.specs.Call.{Lent, lent, inputOf, Leaves, Thinned}
+use Rattle.thinning.specs.declared.Came.{Came}
+use Rattle.thinning.specs.Contracts.{Working, Standing, Zeroed, inputWalked, MeshWalked, outcomeIn, Finished}
+use Rattle.thinning.proofs.FrameLaws.{working-within, zeroed-within}
+use Rattle.thinning.proofs.WalkedLaws.{outcome-is, outcome-worked}
+
+-- ---- the last stage
 
 -- writing the outputs changes no work memory but marks
 finished-within : {v f : ℕ} {o : Outcome} {u u' : List ℕ} {points points' : List Float} {faces faces' : List ℕ} {r : Answer} (p q : List Float) →
@@ -39,67 +35,83 @@ finished-within p q finished = record {
   rest-q = refl;
 }
 
+-- so there is still room
+pub clear-asked : {v f : ℕ} {o : Outcome} {u u' : List ℕ} {p q points points' : List Float} {faces faces' : List ℕ} {r : Answer} →
+    Working v f u p q → Finished v f o u points faces u' points' faces' r → Working v f u' p q
+clear-asked {p = p} {q = q} room finished = working-within room (finished-within p q finished)
+
 -- an outcome that works in the memory, answered and written, with the memory zeroed
-worked-leaves : {v f : ℕ} (o : Outcome) {o' : Outcome} {w w' u u' : List ℕ} {pu qu pu' qu' points points' : List Float} {faces faces' : List ℕ} {r : Answer} →
-    o .worked ≡ true → o ≡ o' → Finished v f o w points faces w' points' faces' r → Zeroed v f u pu qu u' pu' qu' →
-    Leaves v f o' points faces u pu qu points' faces' u' pu' qu' r
-worked-leaves {v} {f} o {o'} works is finished zeroed =
-    let works' : o' .worked ≡ true = rw is at works in
+worked-leaves : {v f : ℕ} (o : Outcome) {points points' : List Float} {faces faces' : List ℕ} {u u' : List ℕ} {p q p' q' : List Float} {r : Answer} → o .worked ≡ true →
+    r ≡ o .answer → points' ≡ overlaid (o .points) points → faces' ≡ overlaid (o .faces) faces → Zeroed v f u p q u' p' q' →
+    Leaves v f o (lent points faces u p q) (lent points' faces' u' p' q') r
+worked-leaves o works answer points faces zeroed =
     record {
-      answered = finished .answered ∙ rw is;
-      points-out = finished .points-out ∙ rw is;
-      faces-out = finished .faces-out ∙ rw is;
-      u32s-left = zeroed .u32s ∙ rw works';
-      f32s-left = zeroed .f32s ∙ rw works';
-      f64s-left = zeroed .f64s ∙ rw works';
+      answered = answer;
+      points-out = points;
+      faces-out = faces;
+      u32s-left = zeroed .u32s ∙ rw works;
+      f32s-left = zeroed .f32s ∙ rw works;
+      f64s-left = zeroed .f64s ∙ rw works;
     }
 
--- the mesh is laid out from u, pu, qu
-module _ (i : Input) (preserve : Bool) (verdict : verdictOf i ≡ Admitted) {borders : ℕ} {u w : List ℕ} {pu qu p q : List Float}
-    (room : Working (pointsIn i) (facesIn i) u pu qu)
-    (laid : LaidOut (pointsIn i) (facesIn i) (i .points) (i .faces) preserve u pu qu w p q borders) where
-  pub walk-asked :
-      Tidy (pointsIn i) (facesIn i) w
-      × ((length (liveFaces (facesIn i) w) ≡ facesIn i) × ((3 * pointsIn i + 9 * facesIn i ≤ length p) × (10 * pointsIn i + 3 * facesIn i ≤ length q)))
-  walk-asked =
-      let still = working-within room (laid .within) in
-      (laid .tidy, (laid .all-live, (omega arith, omega arith)))
+-- answered and cleared
+pub left : {v f : ℕ} (came : Came) {w w' u' : List ℕ} {p q p' q' points points' : List Float} {faces faces' : List ℕ} {r : Answer} →
+    Finished v f (outcomeIn f came w p) w points faces w' points' faces' r → Zeroed v f w' p q u' p' q' →
+    Leaves v f (outcomeIn f came w p) (lent points faces w p q) (lent points' faces' u' p' q') r
+left {f = f} came {w = w} {p = p} {q = q} finished zeroed =
+    worked-leaves (outcomeIn f came w p) (outcome-worked f came w p) (finished .answered) (finished .points-out) (finished .faces-out)
+    (zeroed-within (finished-within p q finished) zeroed)
 
-  -- it is walked
-  module _ {target : ℕ} {w' : List ℕ} {p' q' : List Float} {r : Walked} (aim : target ≡ targetOf i)
-      (done : WalkDone (pointsIn i) (facesIn i) w p q target (i .limit) (i .bound) w' p' q' r) where
-    walked-within : Within (pointsIn i) (facesIn i) u pu qu w' p' q'
-    walked-within = within-then (laid .within) (done .within)
+-- ---- the whole call
 
-    pub points-stay : 3 * pointsIn i ≤ length p'
-    points-stay = let still = working-within room walked-within in omega arith
+-- what the last stage leaves in the memory that the walk has worked in, it leaves in the memory that came
+leaves-within : {v f : ℕ} (o : Outcome) {points points' : List Float} {faces faces' : List ℕ} {u w u' : List ℕ} {pu qu p q p' q' : List Float} {r : Answer} → o .worked ≡ true →
+    Within v f u pu qu w p q → Leaves v f o (lent points faces w p q) (lent points' faces' u' p' q') r →
+    Leaves v f o (lent points faces u pu qu) (lent points' faces' u' p' q') r
+leaves-within o works within leaves =
+    worked-leaves o works (leaves .answered) (leaves .points-out) (leaves .faces-out)
+    (zeroed-within within
+    (record { u32s = leaves .u32s-left ∙ rw works; f32s = leaves .f32s-left ∙ rw works; f64s = leaves .f64s-left ∙ rw works }))
 
-    pub counts-few : (borders ≤ pointsIn i) × (r .folds ≤ facesIn i)
-    counts-few = (
-      rw (laid .counted) (borders-few (pointsIn i) (facesOf (facesIn i) (i .faces)) preserve),
-      omega (arith, plain-walk-fewer (laid .tidy) done, laid .all-live),
-    )
+-- what the walk came to is the same whatever room there is
+pub same-walk : (points : List Float) (faces : List ℕ) (options : Options) (before : Lent)
+    {u u' : List ℕ} {p q p' q' : List Float} {folds folds' : List ℕ} {came : Came} →
+    MeshWalked (inputWalked points faces options) u p q u' p' q' folds folds' came →
+    MeshWalked (inputOf points faces options before) u p q u' p' q' folds folds' came
+unfolding lastMesh foldsWalked startOf targetOf
+same-walk points faces options before walked = record {
+  tidy = walked .tidy;
+  within = walked .within;
+  last-mesh = walked .last-mesh;
+  aim = walked .aim;
+  borders-held = walked .borders-held;
+  borders-few = walked .borders-few;
+  folds-made = walked .folds-made;
+  folds-few = walked .folds-few;
+  folds-listed = walked .folds-listed;
+}
 
-    -- and the folds are listed
-    pub folds-listed : (folds : List ℕ) {folds' : List ℕ} → folds' ≡ listed (foldsIn (pointsIn i) (facesIn i) w' (r .folds)) folds →
-        folds' ≡ listed (foldsOf i preserve) folds
-    folds-listed folds here = here ∙ ap (λ (made : List Pair). listed made folds) (folds-are i preserve aim laid done verdict)
+module _ (i : Input) {points : List Float} {faces : List ℕ} {u w : List ℕ} {pu qu p q : List Float} {folds folds' : List ℕ} {came : Came}
+    (walked : MeshWalked i u pu qu w p q folds folds' came) where
+  -- what the last stage asks
+  pub finish-asked : 3 * pointsIn i ≤ length points → 3 * facesIn i ≤ length faces → Working (pointsIn i) (facesIn i) u pu qu →
+      Standing (pointsIn i) (facesIn i) came (lent points faces w p q)
+  finish-asked points-fit faces-fit room = record {
+    tidy = walked .tidy;
+    working = working-within room (walked .within);
+    points-fit = points-fit;
+    faces-fit = faces-fit;
+    borders-few = walked .borders-few;
+    folds-few = walked .folds-few;
+  }
 
-    -- it is written, or not
-    module _ {w'' : List ℕ} {points points' : List Float} {faces faces' : List ℕ} {a : Answer}
-        (finished : Finished (pointsIn i) (facesIn i) (outcomeIn (facesIn i) target borders (r .folds) w' p') w' points faces w'' points' faces' a) where
-      finished-all : Within (pointsIn i) (facesIn i) u pu qu w'' p' q'
-      finished-all = within-then walked-within (finished-within p' q' finished)
-
-      pub clear-asked : Working (pointsIn i) (facesIn i) w'' p' q'
-      clear-asked = working-within room finished-all
-
-      -- and cleared
-      module _ {u' : List ℕ} {pu' qu' : List Float} (zeroed : Zeroed (pointsIn i) (facesIn i) w'' p' q' u' pu' qu') where
-        pub zeroed-all : Zeroed (pointsIn i) (facesIn i) u pu qu u' pu' qu'
-        zeroed-all = zeroed-within finished-all zeroed
-
-        pub left : Leaves (pointsIn i) (facesIn i) (outcome i preserve) points faces u pu qu points' faces' u' pu' qu' a
-        left = worked-leaves (outcomeIn (facesIn i) target borders (r .folds) w' p')
-            (outcome-worked (facesIn i) target borders (r .folds) w' p') (outcome-is i preserve aim laid done (done .tidy) verdict)
-            finished zeroed-all
+  -- what the call leaves
+  pub thinned : {points' : List Float} {faces' : List ℕ} {u' : List ℕ} {p' q' : List Float} {r : Answer} → verdictOf i ≡ Admitted →
+      Leaves (pointsIn i) (facesIn i) (outcomeIn (facesIn i) came w p) (lent points faces w p q) (lent points' faces' u' p' q') r →
+      Thinned i (lent points faces u pu qu) (lent points' faces' u' p' q') folds folds' r
+  unfolding foldsOf foldsBy
+  thinned verdict leaves = record {
+    answered = rw (outcome-is i verdict walked) at
+        (leaves-within (outcomeIn (facesIn i) came w p) (outcome-worked (facesIn i) came w p) (walked .within) leaves);
+    folds-listed = walked .folds-listed ∙ rw verdict;
+  }

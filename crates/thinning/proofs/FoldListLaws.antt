@@ -11,12 +11,12 @@ use Rattle.walk.specs.declared.Pair.{Pair}
 use Rattle.lists.specs.Lists.{below}
 use Rattle.walk.specs.Pairs.{pairOf}
 use Rattle.walk.proofs.SamePairs.{pair-path}
-use Rattle.lists.proofs.BelowLaws.{map-same}
-use Rattle.lists.proofs.EachLaws.{length-each, getD-each}
+use Rattle.lists.proofs.BelowLaws.{map-same-below, length-each, getD-each}
 use Rattle.lists.proofs.OverlayLaws.{copied, copy-more, copy-all}
 use Rattle.memory.specs.Entries.{foldsIn}
 use Rattle.meaning.specs.Outcome.{pairNumbers}
 use Rattle.meaning.specs.Call.{listed}
+use Rattle.memory.specs.Layout.{foldsFrom}
 
 -- the numbers of two lists of pairs, one after the other
 numbers-append : (xs ys : List Pair) → pairNumbers (xs ++ ys) ≡ pairNumbers xs ++ pairNumbers ys
@@ -39,12 +39,12 @@ numbers-each g (suc n) =
     ∙ ap (λ (l : List ℕ). l ++ (g (2 * n) ∷ g (2 * n + 1) ∷ [])) (numbers-each g n)
     ∙ rw twice (sym two-more)
 
--- the folds written down are the cells from 24F + 5V on, in a row
-fold-cells : (v f : ℕ) (w : List ℕ) (made : ℕ) → pairNumbers (foldsIn v f w made) ≡ map (λ k. getD w (24 * f + 5 * v + k) 0) (below (2 * made))
+-- the folds written down are the cells from foldsFrom on, in a row
+fold-cells : (v f : ℕ) (w : List ℕ) (made : ℕ) → pairNumbers (foldsIn v f w made) ≡ map (λ k. getD w (foldsFrom v f + k) 0) (below (2 * made))
 unfolding foldsIn
 fold-cells v f w made =
-    ap pairNumbers (map-same _ _ made (λ i l. pair-path refl (ap (λ (k : ℕ). getD w k 0) (omega arith))))
-    ∙ numbers-each (λ k. getD w (24 * f + 5 * v + k) 0) made
+    ap pairNumbers (map-same-below _ _ made (λ i l. pair-path refl (ap (λ (k : ℕ). getD w k 0) (omega arith))))
+    ∙ numbers-each (λ k. getD w (foldsFrom v f + k) 0) made
 
 -- those of them that a list has room for
 module _ (v f : ℕ) (w : List ℕ) (made : ℕ) (folds : List ℕ) where
@@ -56,7 +56,7 @@ module _ (v f : ℕ) (w : List ℕ) (made : ℕ) (folds : List ℕ) where
       let all : length (pairNumbers (foldsIn v f w made)) ≡ 2 * made = ap length (fold-cells v f w made) ∙ length-each _ (2 * made) in
       omega (arith, length-take (length folds) (pairNumbers (foldsIn v f w made)))
 
-  row-at : (i : ℕ) → i < min (2 * made) (length folds) → getD row i 0 ≡ getD w (24 * f + 5 * v + i) 0
+  row-at : (i : ℕ) → i < min (2 * made) (length folds) → getD row i 0 ≡ getD w (foldsFrom v f + i) 0
   row-at i l =
       getD-take (length folds) (pairNumbers (foldsIn v f w made)) i 0 (omega arith)
       ∙ ap (λ (l : List ℕ). getD l i 0) (fold-cells v f w made)
@@ -64,7 +64,7 @@ module _ (v f : ℕ) (w : List ℕ) (made : ℕ) (folds : List ℕ) where
 
   -- one number more is copied, and in the end all
   pub row-more : (i : ℕ) (now : List ℕ) → i < min (2 * made) (length folds) → now ≡ copied i row folds →
-      set now i (getD w (24 * f + 5 * v + i) 0) ≡ copied (i + 1) row folds
+      set now i (getD w (foldsFrom v f + i) 0) ≡ copied (i + 1) row folds
   row-more i now l e =
       ap (set now i) (sym (row-at i l))
       ∙ copy-more i row folds now 0 (omega (arith, row-length)) (omega (arith, row-length)) e

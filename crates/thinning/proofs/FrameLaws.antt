@@ -1,6 +1,6 @@
 -- What is past the stages' own cells stays as it came, and what is stated is zero at the end.
 -- Assumes nothing.
-use Prim.Native.Nat.{ℕ, _+_, _*_, _-_, _≤_}
+use Prim.Native.Nat.{ℕ, _+_, _-_, _≤_}
 use native.Mathlib.Omega.{arith}
 use mathlib.Core.Path.{_≡_, sym, ap, _∙_}
 use mathlib.Core.List.{List, _++_}
@@ -11,8 +11,10 @@ use Rattle.geometry.specs.Constants.{nought}
 use Rattle.lists.specs.Frames.{But}
 use Rattle.lists.proofs.FrameLaws.{but-then}
 use Rattle.plainwalk.specs.Steps.{Within}
-use Rattle.plainwalk.proofs.MemoryLaws.{rest-more}
+use Rattle.lists.proofs.DropLaws.{rest-more}
 use Rattle.thinning.specs.Contracts.{Working, Zeroed}
+use Rattle.memory.specs.Layout.{costsTo, placesTo}
+use Rattle.meaning.specs.Input.{f32sNeeded, f64sNeeded, u32sNeeded}
 
 -- cells past a change
 rest-but : {hi : ℕ} {w w' : List ℕ} (n : ℕ) → But 0 hi w w' → hi ≤ n → drop n w' ≡ drop n w
@@ -42,9 +44,9 @@ working-within {v} {f} {w} {w₁} room within =
 pub zeroed-within : {v f : ℕ} {w w₁ w' : List ℕ} {p q p₁ q₁ p' q' : List Float} →
     Within v f w p q w₁ p₁ q₁ → Zeroed v f w₁ p₁ q₁ w' p' q' → Zeroed v f w p q w' p' q'
 zeroed-within {v} {f} {w} {w₁} {w'} {p} {q} {p₁} {q₁} within zeroed = record {
-  u32s = zeroed .u32s ∙ ap (λ (rest : List ℕ). replicate (16 * v + 32 * f) 0 ++ rest) (rest-but (16 * v + 32 * f) (within .but) (omega arith));
-  f32s = zeroed .f32s ∙ ap (λ (rest : List Float). replicate (4 * v + 12 * f) nought ++ rest) (rest-more p₁ p (3 * v + 9 * f) (4 * v + 12 * f) (omega arith) (within .rest-p));
-  f64s = zeroed .f64s ∙ ap (λ (rest : List Float). replicate (16 * v + 6 * f) nought ++ rest) (rest-more q₁ q (10 * v + 3 * f) (16 * v + 6 * f) (omega arith) (within .rest-q));
+  u32s = zeroed .u32s ∙ ap (λ (rest : List ℕ). replicate (u32sNeeded v f) 0 ++ rest) (rest-but (u32sNeeded v f) (within .but) (omega arith));
+  f32s = zeroed .f32s ∙ ap (λ (rest : List Float). replicate (f32sNeeded v f) nought ++ rest) (rest-more p₁ p (placesTo v f) (f32sNeeded v f) (omega arith) (within .rest-p));
+  f64s = zeroed .f64s ∙ ap (λ (rest : List Float). replicate (f64sNeeded v f) nought ++ rest) (rest-more q₁ q (costsTo v f) (f64sNeeded v f) (omega arith) (within .rest-q));
 }
 
 -- no memory grows or shrinks
@@ -54,7 +56,7 @@ length-over n zero cells fits = omega (arith, length-append (replicate n zero) (
 pub zeroed-lengths : {v f : ℕ} {w w' : List ℕ} {p q p' q' : List Float} → Working v f w p q → Zeroed v f w p q w' p' q' →
     (length w' ≡ length w) × (length p' ≡ length p) × (length q' ≡ length q)
 zeroed-lengths {v} {f} {w} {w'} {p} {q} room zeroed = (
-  ap length (zeroed .u32s) ∙ length-over (16 * v + 32 * f) 0 w (room .u32s .long),
-  ap length (zeroed .f32s) ∙ length-over (4 * v + 12 * f) nought p (room .f32s),
-  ap length (zeroed .f64s) ∙ length-over (16 * v + 6 * f) nought q (room .f64s),
+  ap length (zeroed .u32s) ∙ length-over (u32sNeeded v f) 0 w (room .u32s .long),
+  ap length (zeroed .f32s) ∙ length-over (f32sNeeded v f) nought p (room .f32s),
+  ap length (zeroed .f64s) ∙ length-over (f64sNeeded v f) nought q (room .f64s),
 )

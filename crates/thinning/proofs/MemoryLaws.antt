@@ -1,6 +1,6 @@
 -- The faces of a tidy memory: how many they are, and that the parts of their points are those of the mesh.
 -- Assumes nothing.
-use Prim.Native.Nat.{ℕ, _≤_, _<_}
+use Prim.Native.Nat.{ℕ, _≤_}
 use native.Mathlib.Omega.{arith}
 use mathlib.Core.Path.{_≡_, refl, _∙_}
 use mathlib.Core.List.{List, [], _∷_}
@@ -8,29 +8,26 @@ use mathlib.Core.Bool.{true}
 use lib.Dec.{ltb}
 use lib.Ieee.{Float}
 use lib.ListN.{length, length-map}
-use borrow.Author.Tests.{ltb-true, lt-ltb}
+use mir.Syntax.{w32}
+use mir.Val.{Fits}
+use borrow.Author.Tests.{ltb-true}
 use Rattle.placement.specs.declared.pair.Vertex.{Vertex}
 use Rattle.lists.specs.Lists.{every, those, below}
 use Rattle.walk.specs.Points.{Rules}
 use Rattle.walk.specs.Output.{used}
 use Rattle.lists.proofs.TestLaws.{left-of}
-use Rattle.lists.proofs.SumLaws.{every-from, length-below, getD-below}
-use Rattle.lists.proofs.ListLaws.{every-head, every-tail, every-those, every-map, length-those}
+use Rattle.lists.proofs.EveryLaws.{every-head, every-tail, every-those, every-map, length-those}
 use Rattle.walk.proofs.RenumberLaws.{corners, used-every, length-used-below}
 use Rattle.walk.specs.Faces.{faceAt}
 use Rattle.memory.specs.Memory.{lives, liveFaces}
 use Rattle.mesh.specs.Contracts.Chains.{Tidy}
-use Rattle.lists.proofs.BelowSums.{count-most}
+use Rattle.lists.proofs.BelowLaws.{count-below-most, all-below}
 use Rattle.memory.specs.Points.{meshOf, partsOf}
 use Rattle.memory.proofs.MeshLaws.{mesh-point}
 use Rattle.output.specs.declared.Counts.{Counts}
 use Rattle.output.specs.Contracts.Written.{Written}
 use Rattle.meaning.specs.Outcome.{partsIn}
 use Rattle.thinning.specs.Contracts.{thinnedIn, Finished}
-
--- the numbers below n are below n
-all-below : (n : ℕ) → every (λ x. ltb x n) (below n) ≡ true
-all-below n = every-from (λ x. ltb x n) 0 (below n) (λ i l. let i-n : i < n = rw length-below at l in rw (getD-below n i i-n) (lt-ltb i n i-n))
 
 module _ {v f : ℕ} {w : List ℕ} (tidy : Tidy v f w) where
   -- the points of the live faces are below v
@@ -47,19 +44,26 @@ module _ {v f : ℕ} {w : List ℕ} (tidy : Tidy v f w) where
   unfolding every
   used-below = used-every (λ x. ltb x v) [] (liveFaces f w) refl live-below
 
-  pub used-few : length (used [] (liveFaces f w)) ≤ v
+  used-few : length (used [] (liveFaces f w)) ≤ v
   used-few = length-used-below v (liveFaces f w) live-below
 
   -- at most f faces are live
-  pub live-few : length (liveFaces f w) ≤ f
+  live-few : length (liveFaces f w) ≤ f
   unfolding liveFaces
   live-few =
       omega (
         arith,
         length-map (those (lives f w) (below f)) (faceAt w),
         length-those (lives f w) (below f),
-        count-most (lives f w) f,
+        count-below-most (lives f w) f,
       )
+
+-- so both numbers fit u32
+pub used-fits : {v f n : ℕ} {w : List ℕ} → Tidy v f w → n ≡ length (used [] (liveFaces f w)) → Fits w32 n
+used-fits tidy counted = record { fits = omega (arith, used-few tidy, tidy .room .points-few) }
+
+pub live-fits : {v f n : ℕ} {w : List ℕ} → Tidy v f w → n ≡ length (liveFaces f w) → Fits w32 n
+live-fits tidy counted = record { fits = omega (arith, live-few tidy, tidy .room .faces-few) }
 
 -- the parts of points in memory are those of the mesh that it holds
 parts-same : (rules : Rules Vertex) (v f : ℕ) (w : List ℕ) (p q : List Float) (xs : List ℕ) →

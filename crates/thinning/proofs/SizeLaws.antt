@@ -1,28 +1,51 @@
--- What the checks say of the sizes, as the stages ask it of the lent lists.
+-- What the checks say of an input, as the stages ask it of the lists.
 -- Assumes nothing.
-use Prim.Native.Nat.{ℕ}
-use mathlib.Core.Path.{_≡_}
+use Prim.Native.Nat.{ℕ, _/_, _≤_}
+use native.Mathlib.Omega.{arith}
 use mathlib.Core.List.{List}
 use lib.Ieee.{Float}
 use lib.ListN.{length}
-use Rattle.meaning.specs.Input.{Input, pointsIn, facesIn}
-use Rattle.checks.specs.Facts.{Sized}
-use Rattle.thinning.specs.Contracts.{Working, Measured}
+use mir.Syntax.{w32}
+use mir.Val.{Fits}
+use Rattle.meaning.specs.declared.Options.{Options}
+use Rattle.meaning.specs.Call.{Lent, inputOf}
+use Rattle.checks.specs.Facts.{Sized, Admissible}
+use Rattle.thinning.specs.Contracts.{Working, Measured, Ready}
 
-module _ (i : Input) (sized : Sized i) where
-  pub working : (u : List ℕ) (p q : List Float) → i .rooms .u32s ≡ length u → i .rooms .f32s ≡ length p → i .rooms .f64s ≡ length q →
-      Working (pointsIn i) (facesIn i) u p q
-  working u p q u-long p-long q-long = record {
-    u32s = record { points-few = sized .points-most; faces-few = sized .faces-most; long = rw u-long at (sized .room-u32s) };
-    f32s = rw p-long at (sized .room-f32s);
-    f64s = rw q-long at (sized .room-f64s);
+-- a number within document 01's limits fits u32
+pub few-fits : {n : ℕ} → n ≤ 131072 → Fits w32 n
+few-fits few = record { fits = omega arith }
+
+pub points-fit : {n : ℕ} → n ≤ 65536 → Fits w32 n
+points-fit few = record { fits = omega arith }
+
+pub below-fits : {n most : ℕ} → n ≤ most → most ≤ 131072 → Fits w32 n
+below-fits below few = record { fits = omega arith }
+
+module _ (points : List Float) (faces : List ℕ) (options : Options) (before : Lent) where
+  working : Sized (inputOf points faces options before) → Working (length points / 3) (length faces / 3) (before .u32s) (before .f32s) (before .f64s)
+  working sized = record {
+    u32s = record { points-few = sized .points-most; faces-few = sized .faces-most; long = sized .room-u32s };
+    f32s = sized .room-f32s;
+    f64s = sized .room-f64s;
   }
 
-  pub measured : (out-points : List Float) (out-faces : List ℕ) → i .rooms .points ≡ length out-points → i .rooms .faces ≡ length out-faces →
-      Measured (pointsIn i) (facesIn i) (i .points) (i .faces) out-points out-faces
-  measured out-points out-faces points-long faces-long = record {
+  -- what a copy asks
+  pub measured : Sized (inputOf points faces options before) → Measured (length points / 3) (length faces / 3) points faces before
+  measured sized = record {
     points-by-three = sized .points-by-three;
     faces-by-three = sized .faces-by-three;
-    points-fit = rw points-long at (sized .room-points);
-    faces-fit = rw faces-long at (sized .room-faces);
+    points-fit = sized .room-points;
+    faces-fit = sized .room-faces;
+    working = working sized;
+  }
+
+  -- what laying out asks
+  pub ready : Admissible (inputOf points faces options before) →
+      Ready (length points / 3) (length faces / 3) points faces (before .u32s) (before .f32s) (before .f64s)
+  ready fine = record {
+    points-by-three = fine .sized .points-by-three;
+    faces-by-three = fine .sized .faces-by-three;
+    faces-proper = fine .faces-proper;
+    working = working (fine .sized);
   }

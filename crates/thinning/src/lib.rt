@@ -1,23 +1,21 @@
-// The public entries: a mesh thinned in memory that the caller lends, by the heap walk or by the plain walk.
+// The public entry: a mesh thinned in memory that the caller lends, by the heap walk or by the plain walk.
 ghost use mathlib.Core.Path.{_≡_};
-ghost use mathlib.Core.Bool.{true};
-ghost use Prim.Native.Nat.{_+_, _*_, _≤_, min};
+ghost use Prim.Native.Nat.{_+_, _*_, _/_, _≤_, min};
 ghost use lib.ListN.{length};
-ghost use Rattle.lists.specs.Lists.{every};
-ghost use Rattle.walk.specs.Faces.{proper, facesOf};
-ghost use Rattle.memory.specs.Memory.{Room, liveFaces};
-ghost use Rattle.mesh.specs.Contracts.Chains.{Tidy};
+ghost use Rattle.memory.specs.Memory.{Room};
 ghost use Rattle.memory.specs.Entries.{foldsIn};
+ghost use Rattle.mesh.specs.Contracts.Chains.{Tidy};
 ghost use Rattle.plainwalk.specs.Whole.{WalkDone};
 ghost use Rattle.meaning.specs.declared.Verdict.the-variants.{Admitted};
 ghost use Rattle.meaning.specs.Answers.{verdictOf};
 ghost use Rattle.meaning.specs.Outcome as Outcomes;
-ghost use Rattle.meaning.specs.Outcome.{foldsOf};
-ghost use Rattle.meaning.specs.Call.{largest, inputOf, listed, Leaves, Answered};
-ghost use Rattle.thinning.specs.Contracts.{Working, Measured, copyOf, Zeroed, LaidOut, thinnedIn, outcomeIn, Finished};
+ghost use Rattle.meaning.specs.Call.{coordinateBound, lent, inputOf, listed, Leaves, Thinned};
+ghost use Rattle.thinning.specs.Contracts.{Working, Measured, Ready, Walkable, Standing, copyOf, Zeroed, LaidOut, inputWalked, MeshWalked, outcomeIn, Finished};
 use meaning::Answer;
+use meaning::Options;
 use meaning::Rooms;
 use meaning::Verdict;
+use placement::Bounds;
 use placement::Limit;
 use plainwalk::Walked;
 
@@ -25,9 +23,16 @@ use plainwalk::Walked;
 const BOUND: f32 = 1048576.0;
 
 // How the mesh is walked: by every cost worked out anew, or by a queue. The two have one statement.
-enum Engine {
+pub enum Engine {
     Plain,
     Heap,
+}
+
+// What the walk of a mesh came to: the faces it was to reach, the border points that are held, and the folds made.
+struct Came {
+    target: usize,
+    borders: usize,
+    folds: usize,
 }
 
 // A refusal has zeros in the last three.
@@ -60,26 +65,26 @@ fn clear(w: &mut [u32], p: &mut [f32], q: &mut [f64], v: usize, f: usize)
     requires { ⌜ Working v f (now w) (now p) (now q) ⌝ }
     ensures { λ _. ⌜ Zeroed v f (now (w .entry)) (now (p .entry)) (now (q .entry)) (now (w .exit)) (now (p .exit)) (now (q .exit)) ⌝ }
 {
-    output::clear_u32(w, 16 * v + 32 * f);
-    output::clear_f32(p, 4 * v + 12 * f);
-    output::clear_f64(q, 16 * v + 6 * f);
+    lists::clear_u32(w, 16 * v + 32 * f);
+    lists::clear_f32(p, 4 * v + 12 * f);
+    lists::clear_f64(q, 16 * v + 6 * f);
 }
 
 // Ratio zero: the mesh is copied unchanged.
 fn copied(
     points: &[f32],
     faces: &[u32],
-    v: usize,
-    f: usize,
     out_points: &mut [f32],
     out_faces: &mut [u32],
     w: &mut [u32],
     p: &mut [f32],
     q: &mut [f64],
 ) -> Answer
-    requires { ⌜ Measured v f (now points) (now faces) (now «out_points») (now «out_faces») ⌝ ∗ ⌜ Working v f (now w) (now p) (now q) ⌝ }
-    ensures { λ r. ⌜ Leaves v f (copyOf v f (now (points .entry)) (now (faces .entry))) (now («out_points» .entry)) (now («out_faces» .entry)) (now (w .entry)) (now (p .entry)) (now (q .entry)) (now («out_points» .exit)) (now («out_faces» .exit)) (now (w .exit)) (now (p .exit)) (now (q .exit)) r ⌝ }
+    requires { ⌜ Measured (length (now points) / 3) (length (now faces) / 3) (now points) (now faces) (lent (now «out_points») (now «out_faces») (now w) (now p) (now q)) ⌝ }
+    ensures { λ r. ⌜ Leaves (length (now (points .entry)) / 3) (length (now (faces .entry)) / 3) (copyOf (length (now (points .entry)) / 3) (length (now (faces .entry)) / 3) (now (points .entry)) (now (faces .entry))) (lent (now («out_points» .entry)) (now («out_faces» .entry)) (now (w .entry)) (now (p .entry)) (now (q .entry))) (lent (now («out_points» .exit)) (now («out_faces» .exit)) (now (w .exit)) (now (p .exit)) (now (q .exit))) r ⌝ }
 {
+    let v = points.len() / 3;
+    let f = faces.len() / 3;
     output::copy_mesh(points, faces, out_points, out_faces);
     clear(w, p, q, v, f);
     Answer {
@@ -102,7 +107,7 @@ fn laid_out(
     v: usize,
     f: usize,
 ) -> usize
-    requires { ⌜ Working v f (now w) (now p) (now q) ⌝ ∗ ⌜ length (now points) ≡ 3 * v ⌝ ∗ ⌜ length (now faces) ≡ 3 * f ⌝ ∗ ⌜ every (proper v) (facesOf f (now faces)) ≡ true ⌝ }
+    requires { ⌜ Ready v f (now points) (now faces) (now w) (now p) (now q) ⌝ }
     ensures { λ n. ⌜ LaidOut v f (now (points .entry)) (now (faces .entry)) preserve (now (w .entry)) (now (p .entry)) (now (q .entry)) (now (w .exit)) (now (p .exit)) (now (q .exit)) n ⌝ }
 {
     mesh::lay_faces(faces, w, v, f);
@@ -123,12 +128,13 @@ fn walk_by(
     target: usize,
     limit: Limit,
 ) -> Walked
-    requires { ⌜ Tidy v f (now w) ⌝ ∗ ⌜ length (liveFaces f (now w)) ≡ f ⌝ ∗ ⌜ 3 * v + 9 * f ≤ length (now p) ⌝ ∗ ⌜ 10 * v + 3 * f ≤ length (now q) ⌝ }
-    ensures { λ r. ⌜ WalkDone v f (now (w .entry)) (now (p .entry)) (now (q .entry)) target limit largest (now (w .exit)) (now (p .exit)) (now (q .exit)) r ⌝ }
+    requires { ⌜ Walkable v f (now w) (now p) (now q) ⌝ }
+    ensures { λ r. ⌜ WalkDone v f (now (w .entry)) (now (p .entry)) (now (q .entry)) target limit coordinateBound (now (w .exit)) (now (p .exit)) (now (q .exit)) r ⌝ }
 {
+    let bounds = Bounds { limit, size: BOUND };
     match engine {
-        Engine::Plain => plainwalk::plain_walk(w, p, q, v, f, target, limit, BOUND),
-        Engine::Heap => heapwalk::heap_walk(w, p, q, v, f, target, limit, BOUND),
+        Engine::Plain => plainwalk::plain_walk(w, p, q, v, f, target, bounds),
+        Engine::Heap => heapwalk::heap_walk(w, p, q, v, f, target, bounds),
     }
 }
 
@@ -144,87 +150,92 @@ fn list_folds(w: &[u32], v: usize, f: usize, made: usize, folds: &mut [u32])
     requires { ⌜ Room v f (now w) ⌝ ∗ ⌜ made ≤ f ⌝ }
     ensures { λ _. ⌜ now (folds .exit) ≡ listed (foldsIn v f (now (w .entry)) made) (now (folds .entry)) ⌝ }
 {
-    let from = 24 * f + 5 * v;
+    let from = memory::folds_from(v, f);
     let n = lesser(2 * made, folds.len());
     for i in 0..n {
         folds[i] = w[from + i];
     }
 }
 
-// Walks the mesh that is laid out, and lists the folds.
+// Lays a mesh out, walks it and lists its folds.
 fn walked(
     engine: Engine,
+    points: &[f32],
+    faces: &[u32],
+    options: Options,
     w: &mut [u32],
     p: &mut [f32],
     q: &mut [f64],
-    v: usize,
-    f: usize,
-    target: usize,
-    limit: Limit,
     folds: &mut [u32],
-) -> Walked
-    requires { ⌜ Tidy v f (now w) ⌝ ∗ ⌜ length (liveFaces f (now w)) ≡ f ⌝ ∗ ⌜ 3 * v + 9 * f ≤ length (now p) ⌝ ∗ ⌜ 10 * v + 3 * f ≤ length (now q) ⌝ }
-    ensures done { λ r. ⌜ WalkDone v f (now (w .entry)) (now (p .entry)) (now (q .entry)) target limit largest (now (w .exit)) (now (p .exit)) (now (q .exit)) r ⌝ }
-    ensures folds { λ r. ⌜ now (folds .exit) ≡ listed (foldsIn v f (now (w .exit)) (r .folds)) (now (folds .entry)) ⌝ }
+) -> Came
+    requires { ⌜ Ready (length (now points) / 3) (length (now faces) / 3) (now points) (now faces) (now w) (now p) (now q) ⌝ }
+    ensures { λ r. ⌜ MeshWalked (inputWalked (now (points .entry)) (now (faces .entry)) options) (now (w .entry)) (now (p .entry)) (now (q .entry)) (now (w .exit)) (now (p .exit)) (now (q .exit)) (now (folds .entry)) (now (folds .exit)) r ⌝ }
 {
+    let v = points.len() / 3;
+    let f = faces.len() / 3;
+    let limit = options.limit;
+    let target = bits::cut::target(options.ratio, f as u32) as usize;
+    let borders = laid_out(points, faces, options.preserve, w, p, q, v, f);
     let walked = walk_by(engine, w, p, q, v, f, target, limit);
     list_folds(w, v, f, walked.folds, folds);
-    walked
+    Came {
+        target: target,
+        borders: borders,
+        folds: walked.folds,
+    }
 }
 
-// Writes the mesh that the walk has left.
-fn written(
+// Writes the mesh that the walk has left, or nothing where the walk is stuck: no fold made and more faces than the target.
+fn answered(
+    came: Came,
     w: &mut [u32],
     p: &[f32],
     v: usize,
     f: usize,
-    folds: usize,
     out_points: &mut [f32],
     out_faces: &mut [u32],
 ) -> Answer
-    requires { ⌜ Tidy v f (now w) ⌝ ∗ ⌜ 3 * v ≤ length (now p) ⌝ ∗ ⌜ 3 * v ≤ length (now «out_points») ⌝ ∗ ⌜ 3 * f ≤ length (now «out_faces») ⌝ ∗ ⌜ folds ≤ f ⌝ }
-    ensures { λ r. ⌜ Finished v f (thinnedIn f folds (now (w .entry)) (now (p .entry))) (now (w .entry)) (now («out_points» .entry)) (now («out_faces» .entry)) (now (w .exit)) (now («out_points» .exit)) (now («out_faces» .exit)) r ⌝ }
+    requires { ⌜ Tidy v f (now w) ⌝ ∗ ⌜ 3 * v ≤ length (now p) ⌝ ∗ ⌜ 3 * v ≤ length (now «out_points») ⌝ ∗ ⌜ 3 * f ≤ length (now «out_faces») ⌝ ∗ ⌜ (came .borders ≤ v) × (came .folds ≤ f) ⌝ }
+    ensures { λ r. ⌜ Finished v f (outcomeIn f came (now (w .entry)) (now (p .entry))) (now (w .entry)) (now («out_points» .entry)) (now («out_faces» .entry)) (now (w .exit)) (now («out_points» .exit)) (now («out_faces» .exit)) r ⌝ }
 {
+    if (came.folds == 0) & (came.target < f) {
+        return stuck(came.borders);
+    }
     let counts = output::write_mesh(w, p, v, f, out_points, out_faces);
     Answer {
         number: 0,
         place: 0,
         points: counts.points as u32,
         faces: counts.faces as u32,
-        folds: folds as u32,
+        folds: came.folds as u32,
     }
 }
 
-// Writes the mesh that the walk has left, or nothing where the walk is stuck: no fold made and more faces than the target.
+// Answers for the mesh that the walk has left, and clears the work memory.
 fn finished(
-    w: &mut [u32],
-    p: &[f32],
+    came: Came,
     v: usize,
     f: usize,
-    target: usize,
-    borders: usize,
-    folds: usize,
     out_points: &mut [f32],
     out_faces: &mut [u32],
+    w: &mut [u32],
+    p: &mut [f32],
+    q: &mut [f64],
 ) -> Answer
-    requires { ⌜ Tidy v f (now w) ⌝ ∗ ⌜ 3 * v ≤ length (now p) ⌝ ∗ ⌜ 3 * v ≤ length (now «out_points») ⌝ ∗ ⌜ 3 * f ≤ length (now «out_faces») ⌝ ∗ ⌜ (borders ≤ v) × (folds ≤ f) ⌝ }
-    ensures { λ r. ⌜ Finished v f (outcomeIn f target borders folds (now (w .entry)) (now (p .entry))) (now (w .entry)) (now («out_points» .entry)) (now («out_faces» .entry)) (now (w .exit)) (now («out_points» .exit)) (now («out_faces» .exit)) r ⌝ }
+    requires { ⌜ Standing v f came (lent (now «out_points») (now «out_faces») (now w) (now p) (now q)) ⌝ }
+    ensures { λ r. ⌜ Leaves v f (outcomeIn f came (now (w .entry)) (now (p .entry))) (lent (now («out_points» .entry)) (now («out_faces» .entry)) (now (w .entry)) (now (p .entry)) (now (q .entry))) (lent (now («out_points» .exit)) (now («out_faces» .exit)) (now (w .exit)) (now (p .exit)) (now (q .exit))) r ⌝ }
 {
-    if (folds == 0) & (target < f) {
-        stuck(borders)
-    } else {
-        written(w, p, v, f, folds, out_points, out_faces)
-    }
+    let answer = answered(came, w, p, v, f, out_points, out_faces);
+    clear(w, p, q, v, f);
+    answer
 }
 
-// A mesh that is admitted to the walk: laid out, walked, its folds listed, and written.
+// A mesh that is admitted to the walk: walked, its folds listed, and written.
 fn admitted(
     engine: Engine,
     points: &[f32],
     faces: &[u32],
-    ratio: f32,
-    preserve: bool,
-    limit: Limit,
+    options: Options,
     out_points: &mut [f32],
     out_faces: &mut [u32],
     w: &mut [u32],
@@ -232,38 +243,21 @@ fn admitted(
     q: &mut [f64],
     folds: &mut [u32],
 ) -> Answer
-    requires { ⌜ verdictOf (inputOf (now points) (now faces) ratio limit (now «out_points») (now «out_faces») (now w) (now p) (now q)) ≡ Admitted ⌝ }
-    ensures answer { λ r. ⌜ Answered (inputOf (now (points .entry)) (now (faces .entry)) ratio limit (now («out_points» .entry)) (now («out_faces» .entry)) (now (w .entry)) (now (p .entry)) (now (q .entry))) preserve (now («out_points» .entry)) (now («out_faces» .entry)) (now (w .entry)) (now (p .entry)) (now (q .entry)) (now («out_points» .exit)) (now («out_faces» .exit)) (now (w .exit)) (now (p .exit)) (now (q .exit)) r ⌝ }
-    ensures folds { λ _. ⌜ now (folds .exit) ≡ listed (foldsOf (inputOf (now (points .entry)) (now (faces .entry)) ratio limit (now («out_points» .entry)) (now («out_faces» .entry)) (now (w .entry)) (now (p .entry)) (now (q .entry))) preserve) (now (folds .entry)) ⌝ }
+    requires { ⌜ verdictOf (inputOf (now points) (now faces) options (lent (now «out_points») (now «out_faces») (now w) (now p) (now q))) ≡ Admitted ⌝ }
+    ensures { λ r. ⌜ Thinned (inputOf (now (points .entry)) (now (faces .entry)) options (lent (now («out_points» .entry)) (now («out_faces» .entry)) (now (w .entry)) (now (p .entry)) (now (q .entry)))) (lent (now («out_points» .entry)) (now («out_faces» .entry)) (now (w .entry)) (now (p .entry)) (now (q .entry))) (lent (now («out_points» .exit)) (now («out_faces» .exit)) (now (w .exit)) (now (p .exit)) (now (q .exit))) (now (folds .entry)) (now (folds .exit)) r ⌝ }
 {
+    let came = walked(engine, points, faces, options, w, p, q, folds);
     let v = points.len() / 3;
     let f = faces.len() / 3;
-    let target = bits::cut::target(ratio, f as u32) as usize;
-    let borders = laid_out(points, faces, preserve, w, p, q, v, f);
-    let walked = walked(engine, w, p, q, v, f, target, limit, folds);
-    let answer = finished(
-        w,
-        p,
-        v,
-        f,
-        target,
-        borders,
-        walked.folds,
-        out_points,
-        out_faces,
-    );
-    clear(w, p, q, v, f);
-    answer
+    finished(came, v, f, out_points, out_faces, w, p, q)
 }
 
-// Thins a mesh and lists its folds, by one walk or the other.
-fn thin_by(
+// Thins a mesh and lists its folds: keep and remove of each, as far as there is room. For any input the answer and every lent cell are those of document 01.
+pub fn thin(
     engine: Engine,
     points: &[f32],
     faces: &[u32],
-    ratio: f32,
-    preserve: bool,
-    limit: Limit,
+    options: Options,
     out_points: &mut [f32],
     out_faces: &mut [u32],
     work_u32: &mut [u32],
@@ -271,8 +265,7 @@ fn thin_by(
     work_f64: &mut [f64],
     folds: &mut [u32],
 ) -> Answer
-    ensures answer { λ r. ⌜ Answered (inputOf (now (points .entry)) (now (faces .entry)) ratio limit (now («out_points» .entry)) (now («out_faces» .entry)) (now («work_u32» .entry)) (now («work_f32» .entry)) (now («work_f64» .entry))) preserve (now («out_points» .entry)) (now («out_faces» .entry)) (now («work_u32» .entry)) (now («work_f32» .entry)) (now («work_f64» .entry)) (now («out_points» .exit)) (now («out_faces» .exit)) (now («work_u32» .exit)) (now («work_f32» .exit)) (now («work_f64» .exit)) r ⌝ }
-    ensures folds { λ _. ⌜ now (folds .exit) ≡ listed (foldsOf (inputOf (now (points .entry)) (now (faces .entry)) ratio limit (now («out_points» .entry)) (now («out_faces» .entry)) (now («work_u32» .entry)) (now («work_f32» .entry)) (now («work_f64» .entry))) preserve) (now (folds .entry)) ⌝ }
+    ensures { λ r. ⌜ Thinned (inputOf (now (points .entry)) (now (faces .entry)) options (lent (now («out_points» .entry)) (now («out_faces» .entry)) (now («work_u32» .entry)) (now («work_f32» .entry)) (now («work_f64» .entry)))) (lent (now («out_points» .entry)) (now («out_faces» .entry)) (now («work_u32» .entry)) (now («work_f32» .entry)) (now («work_f64» .entry))) (lent (now («out_points» .exit)) (now («out_faces» .exit)) (now («work_u32» .exit)) (now («work_f32» .exit)) (now («work_f64» .exit))) (now (folds .entry)) (now (folds .exit)) r ⌝ }
 {
     let rooms = Rooms {
         points: out_points.len(),
@@ -281,13 +274,11 @@ fn thin_by(
         f32s: work_f32.len(),
         f64s: work_f64.len(),
     };
-    match checks::verdict_of(points, faces, rooms, ratio, limit, BOUND) {
+    match checks::verdict_of(points, faces, rooms, options, BOUND) {
         Verdict::Refused(number, place) => refusal(number, place),
         Verdict::Copied => copied(
             points,
             faces,
-            points.len() / 3,
-            faces.len() / 3,
             out_points,
             out_faces,
             work_u32,
@@ -298,9 +289,7 @@ fn thin_by(
             engine,
             points,
             faces,
-            ratio,
-            preserve,
-            limit,
+            options,
             out_points,
             out_faces,
             work_u32,
@@ -309,101 +298,4 @@ fn thin_by(
             folds,
         ),
     }
-}
-
-// Thins a mesh by the plain walk. For any input the answer and every lent cell are those of document 01.
-pub fn thin_plain(
-    points: &[f32],
-    faces: &[u32],
-    ratio: f32,
-    preserve: bool,
-    limit: Limit,
-    out_points: &mut [f32],
-    out_faces: &mut [u32],
-    work_u32: &mut [u32],
-    work_f32: &mut [f32],
-    work_f64: &mut [f64],
-) -> Answer
-    ensures { λ r. ⌜ Answered (inputOf (now (points .entry)) (now (faces .entry)) ratio limit (now («out_points» .entry)) (now («out_faces» .entry)) (now («work_u32» .entry)) (now («work_f32» .entry)) (now («work_f64» .entry))) preserve (now («out_points» .entry)) (now («out_faces» .entry)) (now («work_u32» .entry)) (now («work_f32» .entry)) (now («work_f64» .entry)) (now («out_points» .exit)) (now («out_faces» .exit)) (now («work_u32» .exit)) (now («work_f32» .exit)) (now («work_f64» .exit)) r ⌝ }
-{
-    let mut none = [0u32; 1];
-    thin_by(
-        Engine::Plain,
-        points,
-        faces,
-        ratio,
-        preserve,
-        limit,
-        out_points,
-        out_faces,
-        work_u32,
-        work_f32,
-        work_f64,
-        &mut none,
-    )
-}
-
-// Thins a mesh by the heap walk, and lists its folds: keep and remove of each, as far as there is room.
-pub fn thin_folds(
-    points: &[f32],
-    faces: &[u32],
-    ratio: f32,
-    preserve: bool,
-    limit: Limit,
-    out_points: &mut [f32],
-    out_faces: &mut [u32],
-    work_u32: &mut [u32],
-    work_f32: &mut [f32],
-    work_f64: &mut [f64],
-    folds: &mut [u32],
-) -> Answer
-    ensures answer { λ r. ⌜ Answered (inputOf (now (points .entry)) (now (faces .entry)) ratio limit (now («out_points» .entry)) (now («out_faces» .entry)) (now («work_u32» .entry)) (now («work_f32» .entry)) (now («work_f64» .entry))) preserve (now («out_points» .entry)) (now («out_faces» .entry)) (now («work_u32» .entry)) (now («work_f32» .entry)) (now («work_f64» .entry)) (now («out_points» .exit)) (now («out_faces» .exit)) (now («work_u32» .exit)) (now («work_f32» .exit)) (now («work_f64» .exit)) r ⌝ }
-    ensures folds { λ _. ⌜ now (folds .exit) ≡ listed (foldsOf (inputOf (now (points .entry)) (now (faces .entry)) ratio limit (now («out_points» .entry)) (now («out_faces» .entry)) (now («work_u32» .entry)) (now («work_f32» .entry)) (now («work_f64» .entry))) preserve) (now (folds .entry)) ⌝ }
-{
-    thin_by(
-        Engine::Heap,
-        points,
-        faces,
-        ratio,
-        preserve,
-        limit,
-        out_points,
-        out_faces,
-        work_u32,
-        work_f32,
-        work_f64,
-        folds,
-    )
-}
-
-// Thins a mesh by the heap walk. The statement is word for word that of the plain walk.
-pub fn thin(
-    points: &[f32],
-    faces: &[u32],
-    ratio: f32,
-    preserve: bool,
-    limit: Limit,
-    out_points: &mut [f32],
-    out_faces: &mut [u32],
-    work_u32: &mut [u32],
-    work_f32: &mut [f32],
-    work_f64: &mut [f64],
-) -> Answer
-    ensures { λ r. ⌜ Answered (inputOf (now (points .entry)) (now (faces .entry)) ratio limit (now («out_points» .entry)) (now («out_faces» .entry)) (now («work_u32» .entry)) (now («work_f32» .entry)) (now («work_f64» .entry))) preserve (now («out_points» .entry)) (now («out_faces» .entry)) (now («work_u32» .entry)) (now («work_f32» .entry)) (now («work_f64» .entry)) (now («out_points» .exit)) (now («out_faces» .exit)) (now («work_u32» .exit)) (now («work_f32» .exit)) (now («work_f64» .exit)) r ⌝ }
-{
-    let mut none = [0u32; 1];
-    thin_by(
-        Engine::Heap,
-        points,
-        faces,
-        ratio,
-        preserve,
-        limit,
-        out_points,
-        out_faces,
-        work_u32,
-        work_f32,
-        work_f64,
-        &mut none,
-    )
 }

@@ -17,7 +17,7 @@ use Rattle.walk.specs.Points.{Rules}
 use Rattle.walk.specs.Walk.{State, SameState, Answer, folded, closed, ended, answer, after}
 use Rattle.walk.specs.Pairs.{apart}
 use Rattle.walk.specs.Sound.{Sound, heldBy}
-use Rattle.lists.proofs.SumLaws.{some-count, every-implies, every-some}
+use Rattle.lists.proofs.EveryLaws.{some-count, every-implies, every-some}
 use Rattle.lists.proofs.BagLaws.{bag-refl, bag-append, bag-those}
 use Rattle.walk.proofs.SamePairs.{bag-without-pair}
 use Rattle.walk.proofs.LeastLaws.{fitting, fitting-from, chosen-bag}

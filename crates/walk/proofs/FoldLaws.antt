@@ -12,8 +12,8 @@ use Rattle.lists.specs.Lists.{every}
 use Rattle.walk.specs.Faces.{holds, both, shared, renamedFace, proper}
 use Rattle.walk.specs.Fold.{foldedFaces}
 use Rattle.lists.proofs.TestLaws.{by-test, left-of, right-of, flag-true}
-use Rattle.lists.proofs.SumLaws.{sum-map, sum-those}
-use Rattle.lists.proofs.ListLaws.{sum-same, every-all, every-map, every-those, length-those, count-not, witness}
+use Rattle.lists.proofs.SumLaws.{sum-map, sum-those, sum-same, witness}
+use Rattle.lists.proofs.EveryLaws.{every-all, every-map, every-those, length-those, count-not}
 use Rattle.walk.proofs.FaceLaws.{Four, no-fourth, holds-other, holds-gone, renamed-proper}
 
 -- two points that share a face: a live face that holds both, and passes what every live face passes
@@ -46,7 +46,7 @@ pub folded-shared :
     (faces : List Face) (p : Pair) (x y : ℕ) → Four x y (p .keep) (p .remove)
     → shared (foldedFaces faces p) x y ≡ shared faces x y
 unfolding foldedFaces
-folded-shared faces p x y four = rw (sum-map, sum-those) (sum-same each faces)
+folded-shared faces p x y four = rw (sum-map, sum-those) (sum-same _ _ each faces)
   where
     each :
         (f : Face)

@@ -1,6 +1,6 @@
 -- A removed point is gone: no live face holds it and no open pair touches it, right after the fold and ever after.
 -- Assumes nothing.
-use Prim.Native.Nat.{ℕ, zero, suc, _<_}
+use Prim.Native.Nat.{ℕ, _<_}
 use mathlib.Core.Path.{_≡_, sym, subst}
 use mathlib.Core.Logic.{_≢_}
 use mathlib.Core.List.{List}
@@ -14,15 +14,17 @@ use Rattle.lists.specs.Lists.{those, every, below}
 use Rattle.walk.specs.Faces.{holds, both, shared, neighbour}
 use Rattle.walk.specs.Points.{Rules, Mesh}
 use Rattle.walk.specs.Fold.{foldedFaces, foldedMesh}
-use Rattle.walk.specs.Walk.{State, Answer, folded, closed, ended, answer, after, walk}
+use Rattle.walk.specs.Machines.{walk}
+use Rattle.walk.specs.Walk.{State, Answer, folded, closed, ended, answer, after, plainMachine}
 use Rattle.walk.specs.Pairs.{pairOf, samePair, apart, eligiblePair, opened}
 use Rattle.walk.specs.Sound.{Sound}
 use Rattle.lists.proofs.TestLaws.{clash, left-of, right-of, neither-of}
-use Rattle.lists.proofs.ListLaws.{every-append, every-map, every-those, every-passed, every-without}
+use Rattle.lists.proofs.EveryLaws.{every-both, every-map, every-those, every-passed, every-without}
 use Rattle.walk.proofs.FaceLaws.{holds-other}
 use Rattle.walk.proofs.FoldLaws.{shared-face, folded-gone}
 use Rattle.walk.proofs.PairLaws.{apart-known}
 use Rattle.walk.proofs.SoundLaws.{isOpen, pair-passes, open-differ}
+use Rattle.walk.proofs.MachineLaws.{walk-keeps}
 use Rattle.walk.proofs.StepLaws.{Told, answer-told}
 
 -- a face that doesn't hold a point, and a pair that doesn't touch it
@@ -85,7 +87,7 @@ module _ {D : Type 0} (rules : Rules D) where
       record {
         no-face = folded-gone (s .mesh .faces) p k-r;
         no-pair =
-            every-append (misses (p .remove)) (those (apart p) (s .«open»)) (opened rules (foldedMesh rules (s .mesh) p) (p .keep))
+            every-both (misses (p .remove)) (those (apart p) (s .«open»)) (opened rules (foldedMesh rules (s .mesh) p) (p .keep))
             (every-passed (apart p) (λ q h. let e = apart-known p q h in misses-of (p .remove) q (e .1) (e .3)) (s .«open»))
             (opened-misses (foldedMesh rules (s .mesh) p) (p .keep) (p .remove) k-r (folded-gone (s .mesh .faces) p k-r));
       }
@@ -100,7 +102,7 @@ module _ {D : Type 0} (rules : Rules D) where
       record {
         no-face = none;
         no-pair =
-            every-append (misses x) (those (apart p) (s .«open»)) (opened rules (foldedMesh rules (s .mesh) p) (p .keep))
+            every-both (misses x) (those (apart p) (s .«open»)) (opened rules (foldedMesh rules (s .mesh) p) (p .keep))
             (every-those (misses x) (apart p) (λ q h t. h) (s .«open») (gone .no-pair))
             (opened-misses (foldedMesh rules (s .mesh) p) (p .keep) x (e .0) none);
       }
@@ -112,8 +114,5 @@ module _ {D : Type 0} (rules : Rules D) where
   pub step-gone : (target : ℕ) (s : State D) (x : ℕ) → Gone s x → Gone (after rules s (answer rules target s)) x
   step-gone target s x gone = told-gone s x gone (answer rules target s) (answer-told rules target s)
 
-  pub walk-gone : (target n : ℕ) (s : State D) (x : ℕ) → Gone s x → Gone (walk rules target n s) x
-  unfolding walk
-  walk-gone target zero s x gone = gone
-  walk-gone target (suc n) s x gone =
-      walk-gone target n (after rules s (answer rules target s)) x (step-gone target s x gone)
+  pub walk-gone : (target n : ℕ) (s : State D) (x : ℕ) → Gone s x → Gone (walk (plainMachine rules target) n s) x
+  walk-gone target n s x = walk-keeps (plainMachine rules target) (λ t. Gone t x) (λ t. step-gone target t x) n s

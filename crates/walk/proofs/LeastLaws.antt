@@ -16,7 +16,8 @@ use Rattle.lists.specs.Lists.{every, some, below, SameBag}
 use Rattle.walk.specs.Points.{Rules, Mesh}
 use Rattle.walk.specs.Pairs.{samePair, order, least}
 use Rattle.walk.specs.Walk.{tried, chosen}
-use Rattle.lists.proofs.SumLaws.{every-from, some-from, length-below, getD-below}
+use Rattle.lists.proofs.EveryLaws.{every-from, some-from}
+use Rattle.lists.proofs.BelowLaws.{length-below, getD-below}
 use Rattle.walk.proofs.SamePairs.{pair-path, same-self, every-member}
 use Rattle.lists.proofs.BagLaws.{bag-sym, bag-length, bag-every, bag-some}
 

@@ -1,10 +1,10 @@
 -- Pairs: which one joins which points, and that the least of a list is one of it.
 -- Assumes nothing.
 use Prim.Native.Nat.{ℕ, _+_, _≤_, _<_, min, max}
-use mathlib.Core.Path.{_≡_, refl, sym, _∙_}
+use mathlib.Core.Path.{_≡_, refl, sym, ap, _∙_}
 use mathlib.Core.Logic.{_≢_}
 use mathlib.Core.List.{List, [], _∷_, map}
-use mathlib.Core.Bool.{Bool, true, false, _&&_, _||_, cond, or-true}
+use mathlib.Core.Bool.{Bool, true, false, not, _&&_, _||_, cond, or-true}
 use native.Mathlib.Nat.{le-trans, le-of-eq}
 use native.Mathlib.Omega.{arith}
 use lib.Dec.{ltb, eqb}
@@ -16,21 +16,12 @@ use Rattle.walk.specs.Faces.{holds, both}
 use Rattle.walk.specs.Points.{Mesh, Rules}
 use Rattle.walk.specs.Pairs.{pairOf, samePair, apart, pairsBelow, least, order}
 use Rattle.walk.specs.Sound.{joins}
-use Rattle.lists.proofs.TestLaws.{by-test, left-of, right-of, either-of, none-of-four, ends}
-use Rattle.lists.proofs.SumLaws.{sum-map, sum-flatMap}
-use Rattle.lists.proofs.ListLaws.{sum-mono, count-those, count-mono, count-none, count-below-le}
+use Rattle.lists.proofs.TestLaws.{by-test, left-of, right-of, either-of, none-of-four, ends, by-twos}
+use Rattle.lists.proofs.SumLaws.{sum-map, sum-flatMap, sum-mono}
+use Rattle.lists.proofs.EveryLaws.{count-those, count-mono, count-none}
+use Rattle.lists.proofs.BelowLaws.{count-below-le}
 use Rattle.walk.proofs.FaceLaws.{Four, at-corner}
-
--- ---- the same pair
-
--- the test says that they are one, and a pair is the same as itself
-pub same-is : (p q : Pair) → samePair p q ≡ true → p ≡ q
-same-is p q h =
-    let e = ends (p .keep) (p .remove) (q .keep) (q .remove) h in
-    λ i. record { keep = e .0 i; remove = e .1 i }
-
-pub same-self : (p : Pair) → samePair p p ≡ true
-same-self p = rw (eq-eqb (p .keep) (p .keep) refl, eq-eqb (p .remove) (p .remove) refl)
+use Rattle.walk.proofs.SamePairs.{same-self}
 
 -- ---- a pair that joins two points
 
@@ -151,7 +142,7 @@ pub rising-once :
 unfolding pairsBelow
 rising-once v test rises x y =
     rw (count-those, sum-flatMap)
-    (le-trans (sum-mono each (below v)) (count-below-le (min x y) v))
+    (le-trans (sum-mono _ _ each (below v)) (count-below-le (min x y) v))
   where
     found : (a b : ℕ) → (test (pairOf a b) && joins x y (pairOf a b)) ≡ true → (min x y ≡ a) × (max x y ≡ b)
     found a b h =
@@ -183,3 +174,24 @@ module _ {D : Type 0} (rules : Rules D) (m : Mesh D) where
   least-one p [] = rw (same-self p) (omega arith)
   least-one p (q ∷ qs) =
       either-one p q qs (ltb (order rules m q) (order rules m p)) (least-one q qs) (least-one p qs)
+
+-- ---- the pairs that a change of points spares
+
+-- a pair of points that are not touched
+abbrev pub spared : (ℕ → Bool) → Pair → Bool
+spared touched x = not (touched (x .keep) || touched (x .remove))
+
+-- the points of a fold
+abbrev pub touches : ℕ → ℕ → ℕ → Bool
+touches keep remove x = eqb x keep || eqb x remove
+
+-- the pairs that the fold spares are those apart from it
+pub spared-apart : (keep remove : ℕ) (ps : List Pair) → those (spared (touches keep remove)) ps ≡ those (apart (pairOf keep remove)) ps
+spared-apart keep remove ps =
+    ap (λ (test : Pair → Bool). those test ps)
+    (λ i x. by-twos (eqb (x .keep) keep) (eqb (x .keep) remove) (eqb (x .remove) keep) (eqb (x .remove) remove) i)
+
+-- a pair is not apart from itself
+pub without-self : (x : Pair) (ps : List Pair) → those (apart x) (x ∷ ps) ≡ those (apart x) ps
+unfolding those
+without-self x ps = rw (eq-eqb (x .keep) (x .keep) refl)

@@ -13,7 +13,9 @@ use borrow.Author.Tests.{ltb-true, ltb-false, eqb-true, eq-eqb}
 use Rattle.lists.specs.Lists.{sum, count, every, some, below}
 use Rattle.walk.specs.Output.{noted, placeIn}
 use Rattle.lists.proofs.TestLaws.{by-test}
-use Rattle.lists.proofs.SumLaws.{sum-append, sum-same, sum-mono, sum-swap, sum-length, sum-pick, length-below, some-count, count-every, every-append, some-append, some-from}
+use Rattle.lists.proofs.SumLaws.{sum-append, sum-same, sum-mono, sum-swap, sum-length}
+use Rattle.lists.proofs.BelowLaws.{sum-pick, length-below}
+use Rattle.lists.proofs.EveryLaws.{some-count, count-every, every-append, some-append, some-from}
 
 -- a list has a number
 abbrev pub has : List ℕ → ℕ → Bool

@@ -11,7 +11,7 @@ use lib.ListN.{length}
 use Rattle.walk.specs.declared.Face.{Face}
 use Rattle.lists.specs.Lists.{every}
 use Rattle.walk.specs.Output.{noted, used, placeIn, renumbered}
-use Rattle.lists.proofs.SumLaws.{some-append, map-same}
+use Rattle.lists.proofs.EveryLaws.{some-append, map-same}
 use Rattle.walk.proofs.PlaceLaws.{has, Once, place-append, once-none, once-length, noted-cases, noted-has, noted-keeps, noted-every, length-noted, once-noted}
 
 -- what holds of a list and is kept whenever a number is noted

@@ -10,8 +10,9 @@ use borrow.Author.Tests.{eqb-true, eq-eqb}
 use Rattle.walk.specs.declared.Pair.{Pair}
 use Rattle.lists.specs.Lists.{sum, every, some, without, SameBag}
 use Rattle.walk.specs.Pairs.{samePair}
-use Rattle.lists.proofs.SumLaws.{every-some}
-use Rattle.lists.proofs.BagLaws.{sum-without, bag-without, bag-taken}
+use Rattle.lists.proofs.EveryLaws.{every-some}
+use Rattle.lists.proofs.SumLaws.{sum-without}
+use Rattle.lists.proofs.BagLaws.{bag-without, bag-taken}
 
 pub pair-path : {p q : Pair} → p .keep ≡ q .keep → p .remove ≡ q .remove → p ≡ q
 pair-path k r i = record { keep = k i; remove = r i }

@@ -20,11 +20,12 @@ use Rattle.walk.specs.Walk.{State, folded, closed, started, after}
 use Rattle.walk.specs.Pairs.{pairOf, samePair, apart, rises, eligiblePair, pairsBelow, opened}
 use Rattle.walk.specs.Sound.{Sound, joins, heldBy}
 use Rattle.lists.proofs.TestLaws.{by-test, left-of, right-of, neither-of, flag-true, differ}
-use Rattle.lists.proofs.SumLaws.{sum-append, some-count}
-use Rattle.lists.proofs.ListLaws.{sum-without-le, count-those-le, count-mono, every-append, every-map, every-those, every-passed, every-without, witness}
+use Rattle.lists.proofs.SumLaws.{sum-append, sum-without-le, witness}
+use Rattle.lists.proofs.EveryLaws.{some-count, count-those-le, count-mono, every-both, every-map, every-those, every-passed, every-without}
 use Rattle.walk.proofs.FaceLaws.{runs-both, held-below}
 use Rattle.walk.proofs.FoldLaws.{shared-face, folded-proper, folded-shared}
-use Rattle.walk.proofs.PairLaws.{same-is, apart-four, apart-none, star-once, star-none, rising-once}
+use Rattle.walk.proofs.SamePairs.{same-pair}
+use Rattle.walk.proofs.PairLaws.{apart-four, apart-none, star-once, star-none, rising-once}
 
 -- ---- open pairs
 
@@ -37,7 +38,7 @@ pub pair-passes :
     (test : Pair → Bool) (ps : List Pair) (p : Pair) → every test ps ≡ true → 0 < count (samePair p) ps → test p ≡ true
 pair-passes test ps p all h =
     let w = witness test (λ q. cond (samePair p q) 1 0) ps all h in
-    rw (same-is p (w .0) (flag-true (samePair p (w .0)) (w .2))) (w .1)
+    rw (same-pair p (w .0) (flag-true (samePair p (w .0)) (w .2))) at (w .1)
 
 -- what it means that a live face holds a pair
 pub held-differ : {D : Type 0} (s : State D) (p : Pair) → heldBy s p ≡ true → p .keep ≢ p .remove
@@ -164,7 +165,7 @@ module _ {D : Type 0} (rules : Rules D) where
             rw length-set
             (folded-proper (length (s .mesh .points)) (s .mesh .faces) p ((open-below s sound p is-open) .0) (sound .faces-proper));
         open-held =
-            every-append (heldBy (after rules s (folded p))) (those (apart p) (s .«open»)) (opened rules (foldedMesh rules (s .mesh) p) (p .keep))
+            every-both (heldBy (after rules s (folded p))) (those (apart p) (s .«open»)) (opened rules (foldedMesh rules (s .mesh) p) (p .keep))
             (every-those (heldBy s) (apart p) (kept-held s p k-r) (s .«open») (sound .open-held))
             (opened-held (after rules s (folded p)) (p .keep));
         open-single = fold-single s sound p (foldedMesh rules (s .mesh) p);

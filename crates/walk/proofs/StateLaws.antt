@@ -1,16 +1,17 @@
 -- A state is sound, and the walk from it folds the same pairs, in whatever order its open pairs are listed.
 -- Assumes nothing.
-use Prim.Native.Nat.{ℕ, zero, suc, _^_, _≤_}
-use mathlib.Core.Path.{_≡_, refl, ap₂, _∙_}
-use mathlib.Core.List.{_++_}
+use Prim.Native.Nat.{ℕ, _^_, _≤_}
+use mathlib.Core.Path.{_≡_, refl, ap, _∙_}
 use lib.ListN.{length}
 use Rattle.walk.specs.Points.{Rules}
-use Rattle.walk.specs.Walk.{State, SameState, foldOf, budget, answer, after, walk, foldList}
+use Rattle.walk.specs.Machines.{walk, foldList}
+use Rattle.walk.specs.Walk.{State, SameState, budget, answer, plainMachine}
 use Rattle.walk.specs.Sound.{Sound, heldBy, joins}
 use Rattle.lists.proofs.BagLaws.{bag-refl, bag-trans, bag-length, bag-every, bag-count}
 use Rattle.walk.proofs.BagWalk.{answer-bag, step-bag, sound-fitting}
 use Rattle.walk.proofs.StepLaws.{step-sound}
-use Rattle.walk.proofs.WalkLaws.{after-points}
+use Rattle.walk.proofs.MachineLaws.{Alike, start-alike}
+use Rattle.walk.proofs.WalkLaws.{after-points, facesLeft}
 
 module _ {D : Type 0} where
   pub same-refl : {s : State D} → SameState s s
@@ -34,16 +35,25 @@ module _ {D : Type 0} where
   unfolding budget
   budget-bag faces same = rw (same .same-mesh, bag-length (same .same-open))
 
-module _ {D : Type 0} (rules : Rules D) (target : ℕ) where
-  -- the walks from both go through the same states, and fold the same pairs
-  pub walk-bag : (k : ℕ) (s t : State D) → Sound s → length (s .mesh .points) ≤ 2 ^ 32 → SameState s t →
-      SameState (walk rules target k s) (walk rules target k t) × (foldList rules target k s ≡ foldList rules target k t)
-  unfolding walk foldList
-  walk-bag zero s t sound few same = (same, refl)
-  walk-bag (suc k) s t sound few same =
-      let fit = sound-fitting sound few in
-      let rest =
-      walk-bag k (after rules s (answer rules target s)) (after rules t (answer rules target t)) (step-sound rules target s sound)
-      (rw (after-points rules s (answer rules target s)) few)
-      (step-bag rules same target fit) in
-      (rest .0, ap₂ (λ a ps. foldOf a ++ ps) (answer-bag rules same target fit) (rest .1))
+-- a state that is sound and has no more points than can be numbered
+abbrev pub SoundFew : {D : Type 0} → State D → Type 0
+SoundFew s = Sound s × (length (s .mesh .points) ≤ 2 ^ 32)
+
+module _ {D : Type 0} (rules : Rules D) (target faces : ℕ) where
+  -- the plain walk answers the same in whatever order the open pairs are listed
+  pub plain-alike : Alike (plainMachine rules target) SoundFew SameState (budget faces) facesLeft
+  plain-alike = record {
+    stays-fit = λ s fit. (step-sound rules target s (fit .0), rw (after-points rules s (answer rules target s)) (fit .1));
+    itself = λ s. same-refl;
+    chained = same-trans;
+    same-answer = λ fit same. answer-bag rules same target (sound-fitting (fit .0) (fit .1));
+    same-step = λ fit same. step-bag rules same target (sound-fitting (fit .0) (fit .1));
+    same-budget = budget-bag faces;
+    same-size = λ same. ap (λ m. length (m .faces)) (same .same-mesh);
+  }
+
+  -- so from two states that differ in that order the same is walked
+  pub start-bag : {s t : State D} → SoundFew s → SameState s t →
+      (walk (plainMachine rules target) (budget faces s) s .mesh ≡ walk (plainMachine rules target) (budget faces t) t .mesh)
+      × (foldList (plainMachine rules target) (budget faces s) s ≡ foldList (plainMachine rules target) (budget faces t) t)
+  start-bag fit same = let both = start-alike plain-alike fit same in (both .0 .same-mesh, both .1)

@@ -4,11 +4,12 @@ use Prim.Native.Nat.{ℕ, _+_, _*_, _≤_, _<_}
 use mathlib.Core.Path.{_≡_, refl, subst}
 use mathlib.Core.Logic.{_≢_}
 use mathlib.Core.List.{List, [], _∷_}
-use mathlib.Core.Bool.{true, false, cond}
+use mathlib.Core.Bool.{Bool, true, false, cond}
 use native.Mathlib.Nat.{le-trans, mul-le-mul-right}
 use native.Mathlib.Omega.{arith}
 use lib.Dec.{leb}
 use lib.ListN.{length}
+use borrow.Author.Tests.{lt-leb}
 use Rattle.walk.specs.declared.Face.{Face}
 use Rattle.walk.specs.declared.Pair.{Pair}
 use Rattle.lists.specs.Lists.{sum, count}
@@ -20,8 +21,8 @@ use Rattle.walk.specs.Walk.{State, Answer, folded, closed, ended, budget
 use Rattle.walk.specs.Pairs.{samePair, least}
 use Rattle.walk.specs.Sound.{Sound, joins, heldBy}
 use Rattle.lists.proofs.TestLaws.{by-test}
-use Rattle.lists.proofs.SumLaws.{sum-add, sum-swap}
-use Rattle.lists.proofs.ListLaws.{sum-times, sum-le, sum-mono, length-without}
+use Rattle.lists.proofs.SumLaws.{sum-add, sum-swap, sum-times, sum-le, sum-mono}
+use Rattle.lists.proofs.EveryLaws.{length-without}
 use Rattle.walk.proofs.FoldLaws.{fold-exact}
 use Rattle.walk.proofs.PairLaws.{on-edge, least-one}
 use Rattle.walk.proofs.SoundLaws.{isOpen, held-differ, held-shared, close-sound, fold-sound, open-shared}
@@ -44,7 +45,7 @@ module _ {D : Type 0} (s : State D) (sound : Sound s) where
   pub open-bound : length (s .«open») ≤ 3 * length (s .mesh .faces)
   open-bound =
       let held = sum-le {g = λ q. 1} (heldBy s) (λ q h. held-shared s q h) (s .«open») (sound .open-held) in
-      let faces = sum-mono {h = λ f. 3} three-each (s .mesh .faces) in
+      let faces = sum-mono _ (λ f. 3) three-each (s .mesh .faces) in
       omega (
         arith,
         sum-times 1 (s .«open»),
@@ -141,3 +142,20 @@ module _ {D : Type 0} (rules : Rules D) where
       falls (folded p) told not-ended = fold-falls faces s sound few p (told .0)
       falls (closed p) told not-ended = close-falls faces s p (told .0)
       falls ended told not-ended = absurd (not-ended refl)
+
+-- ---- the end
+
+-- a pair that is tried is no end, so no pair was to choose
+never-tried : (x : Pair) (b : Bool) → cond b (folded x) (closed x) ≡ ended → ⊥
+never-tried x true e = let z : _≡_ {A = ℕ} 0 1 = cc in omega arith
+never-tried x false e = let z : _≡_ {A = ℕ} 0 1 = cc in omega arith
+
+none-chosen : {D : Type 0} (rules : Rules D) (m : Mesh D) (ps : List Pair) → chosen rules m ps ≡ ended → ps ≡ []
+unfolding chosen tried
+none-chosen rules m [] e = refl
+none-chosen rules m (x ∷ ps) e = absurd (never-tried (least rules m x ps) (allowed rules m (least rules m x ps)) e)
+
+-- above the target the walk ends only where no pair is open
+pub ended-open : {D : Type 0} (rules : Rules D) (target : ℕ) (s : State D) → answer rules target s ≡ ended → target < length (s .mesh .faces) → s .«open» ≡ []
+unfolding answer
+ended-open rules target s e above = none-chosen rules (s .mesh) (s .«open») (rw (lt-leb (length (s .mesh .faces)) target above) at e)

@@ -1,23 +1,25 @@
--- The walk: it is sound at every step, it ends within its budget, and what comes after the end changes nothing.
+-- The plain walk as a machine: it is sound at every step, each fold kills a face, and it ends within its budget.
 -- Assumes nothing.
-use Prim.Native.Nat.{ℕ, zero, suc, _+_, _≤_}
-use mathlib.Core.Path.{_≡_, refl, sym, _∙_, ap}
-use mathlib.Core.Logic.{_≢_}
-use mathlib.Core.List.{[], _++_, append-assoc, append-nil}
-use native.Mathlib.Nat.{zero-add, suc-add, le-refl, le-dest}
+use Prim.Native.Nat.{ℕ, _+_, _≤_}
+use mathlib.Core.Path.{_≡_, refl, _∙_}
+use mathlib.Core.Logic.{_≢_, _⊎_, inl, inr}
+use native.Mathlib.Nat.{le-refl}
 use native.Mathlib.Omega.{arith}
-use lib.ListN.{length, length-append, length-set}
+use lib.ListN.{length, length-set}
 use Rattle.walk.specs.Points.{Rules}
 use Rattle.walk.specs.Fold.{foldedMesh}
-use Rattle.walk.specs.Walk.{State, Answer, folded, closed, ended, foldOf, budget, answer, after, walk, foldList}
+use Rattle.walk.specs.Machines.{walk, foldList}
+use Rattle.walk.specs.Walk.{State, Answer, folded, closed, ended, foldOf, budget, answer, after, plainMachine}
 use Rattle.walk.specs.Sound.{Sound}
+use Rattle.walk.proofs.MachineLaws as machines
+use Rattle.walk.proofs.MachineLaws.{Ending}
 use Rattle.walk.proofs.StepLaws.{Told, answer-told, step-sound, fold-fewer, budget-falls}
 
 -- an answer is the end or not
-pub ended-or : {P : Type 0} (a : Answer) → (a ≡ ended → P) → (a ≢ ended → P) → P
-ended-or (folded p) at-end before-end = before-end (λ e. let z : _≡_ {A = ℕ} 0 1 = cc in omega arith)
-ended-or (closed p) at-end before-end = before-end (λ e. let z : _≡_ {A = ℕ} 0 1 = cc in omega arith)
-ended-or ended at-end before-end = at-end refl
+ended-or : (a : Answer) → (a ≡ ended) ⊎ (a ≢ ended)
+ended-or (folded p) = inr (λ e. let z : _≡_ {A = ℕ} 0 1 = cc in omega arith)
+ended-or (closed p) = inr (λ e. let z : _≡_ {A = ℕ} 0 1 = cc in omega arith)
+ended-or ended = inl refl
 
 -- ---- one step
 
@@ -45,108 +47,56 @@ module _ {D : Type 0} (rules : Rules D) where
       ≤ length (s .mesh .faces)
   step-fewer target s sound = told-fewer s sound (answer rules target s) (answer-told rules target s)
 
+-- the live faces of a state, counted
+abbrev pub facesLeft : {D : Type 0} → State D → ℕ
+facesLeft s = length (s .mesh .faces)
+
+-- a state that is sound and has at most so many live faces
+abbrev pub SoundWithin : {D : Type 0} → ℕ → State D → Type 0
+SoundWithin faces s = Sound s × (facesLeft s ≤ faces)
+
 module _ {D : Type 0} (rules : Rules D) (target : ℕ) where
-  -- ---- steps first, then the rest
-
-  -- m steps and then n are m + n
-  pub walk-add : (m n : ℕ) (s : State D) → walk rules target (m + n) s ≡ walk rules target n (walk rules target m s)
-  unfolding walk
-  walk-add zero n s = rw zero-add
-  walk-add (suc m) n s = rw suc-add (walk-add m n (after rules s (answer rules target s)))
-
-  pub foldList-add :
-      (m n : ℕ) (s : State D)
-      → foldList rules target (m + n) s ≡ foldList rules target m s ++ foldList rules target n (walk rules target m s)
-  unfolding walk foldList
-  foldList-add zero n s = rw zero-add
-  foldList-add (suc m) n s =
-      rw (suc-add, append-assoc)
-      (ap (λ rest. foldOf (answer rules target s) ++ rest) (foldList-add m n (after rules s (answer rules target s))))
-
-  -- a step more, at the end
-  pub walk-last :
-      (n : ℕ) (s : State D)
-      → walk rules target (n + 1) s ≡ after rules (walk rules target n s) (answer rules target (walk rules target n s))
-  unfolding walk
-  walk-last n s = walk-add n 1 s
-
-  pub foldList-last :
-      (n : ℕ) (s : State D)
-      → foldList rules target (n + 1) s ≡ foldList rules target n s ++ foldOf (answer rules target (walk rules target n s))
-  unfolding foldList
-  foldList-last n s =
-      foldList-add n 1 s
-      ∙ ap (λ last. foldList rules target n s ++ last) (append-nil (foldOf (answer rules target (walk rules target n s))))
-
-  -- ---- after the end
-
-  -- once the answer is the end, steps change nothing and fold nothing
-  pub walk-stays : (n : ℕ) (s : State D) → answer rules target s ≡ ended → walk rules target n s ≡ s
-  unfolding walk after
-  walk-stays zero s e = refl
-  walk-stays (suc n) s e = rw e (walk-stays n s e)
-
-  pub foldList-stays : (n : ℕ) (s : State D) → answer rules target s ≡ ended → foldList rules target n s ≡ []
-  unfolding foldList after foldOf
-  foldList-stays zero s e = refl
-  foldList-stays (suc n) s e = rw e (foldList-stays n s e)
+  -- what the laws of a walk ask of its machine
+  pub plain-ending : (faces : ℕ) → Ending (plainMachine rules target) (SoundWithin faces) (budget faces) facesLeft
+  unfolding after foldOf
+  plain-ending faces = record {
+    stays-good = λ s good. (step-sound rules target s (good .0), omega (arith, step-fewer rules target s (good .0)));
+    fewer = λ s good. step-fewer rules target s (good .0);
+    ended-or = ended-or;
+    ended-same = λ s. refl;
+    ended-folds = refl;
+    falls = λ s good. budget-falls rules target faces s (good .0) (good .1);
+  }
 
   -- ---- true after every step
 
-  -- sound, and with as many points
-  pub walk-sound : (n : ℕ) (s : State D) → Sound s → Sound (walk rules target n s)
-  unfolding walk
-  walk-sound zero s sound = sound
-  walk-sound (suc n) s sound = walk-sound n (after rules s (answer rules target s)) (step-sound rules target s sound)
+  -- sound
+  pub walk-sound : (n : ℕ) (s : State D) → Sound s → Sound (walk (plainMachine rules target) n s)
+  walk-sound = machines.walk-keeps (plainMachine rules target) (λ s. Sound s) (step-sound rules target)
 
-  pub walk-points : (n : ℕ) (s : State D) → length ((walk rules target n s) .mesh .points) ≡ length (s .mesh .points)
-  unfolding walk
-  walk-points zero s = refl
-  walk-points (suc n) s = walk-points n (after rules s (answer rules target s)) ∙ after-points rules s (answer rules target s)
+  -- and with as many points
+  pub walk-points : (n : ℕ) (s : State D) → length (walk (plainMachine rules target) n s .mesh .points) ≡ length (s .mesh .points)
+  walk-points n s =
+      machines.walk-keeps (plainMachine rules target) (λ t. length (t .mesh .points) ≡ length (s .mesh .points))
+      (λ t e. after-points rules t (answer rules target t) ∙ e) n s refl
 
   -- each fold has killed a face
   pub walk-fewer :
       (n : ℕ) (s : State D) → Sound s
-      → length (foldList rules target n s) + length ((walk rules target n s) .mesh .faces) ≤ length (s .mesh .faces)
-  unfolding walk foldList
-  walk-fewer zero s sound = omega arith
-  walk-fewer (suc n) s sound =
-      let next = after rules s (answer rules target s) in
-      omega (
-        arith,
-        length-append (foldOf (answer rules target s)) (foldList rules target n next),
-        step-fewer rules target s sound,
-        walk-fewer n next (step-sound rules target s sound),
-      )
+      → length (foldList (plainMachine rules target) n s) + facesLeft (walk (plainMachine rules target) n s) ≤ facesLeft s
+  walk-fewer n s sound = machines.walk-fewer (plain-ending (facesLeft s)) n s (sound, le-refl _)
 
   -- ---- the end
 
   -- after as many steps as the budget, or more, the answer is the end
   pub walk-ends :
-      (faces n : ℕ) (s : State D) → Sound s → length (s .mesh .faces) ≤ faces → budget faces s ≤ n
-      → answer rules target (walk rules target n s) ≡ ended
-  unfolding walk
-  walk-ends faces zero s sound few enough =
-      ended-or (answer rules target s) (λ e. e) (λ on. absurd (omega (arith, budget-falls rules target faces s sound few on)))
-  walk-ends faces (suc n) s sound few enough =
-      ended-or (answer rules target s)
-      (λ e. ap (answer rules target) (walk-stays (suc n) s e) ∙ e)
-      (λ on.
-      walk-ends faces n (after rules s (answer rules target s)) (step-sound rules target s sound)
-      (omega (arith, step-fewer rules target s sound))
-      (omega (arith, budget-falls rules target faces s sound few on)))
+      (faces n : ℕ) (s : State D) → Sound s → facesLeft s ≤ faces → budget faces s ≤ n
+      → answer rules target (walk (plainMachine rules target) n s) ≡ ended
+  walk-ends faces n s sound few = machines.walk-ends (plain-ending faces) n s (sound, few)
 
   -- any budget that is enough gives the same state and the same folds
   pub walk-enough :
-      (faces n : ℕ) (s : State D) → Sound s → length (s .mesh .faces) ≤ faces → budget faces s ≤ n
-      → (walk rules target n s ≡ walk rules target (budget faces s) s)
-      × (foldList rules target n s ≡ foldList rules target (budget faces s) s)
-  walk-enough faces n s sound few enough =
-      let b = budget faces s in
-      let more = le-dest enough in
-      let e = walk-ends faces b s sound few (le-refl b) in (
-        ap (λ i. walk rules target i s) (sym (more .1)) ∙ walk-add b (more .0) s ∙ walk-stays (more .0) (walk rules target b s) e,
-        ap (λ i. foldList rules target i s) (sym (more .1)) ∙ foldList-add b (more .0) s
-            ∙ ap (λ rest. foldList rules target b s ++ rest) (foldList-stays (more .0) (walk rules target b s) e)
-            ∙ append-nil (foldList rules target b s),
-      )
+      (faces n : ℕ) (s : State D) → Sound s → facesLeft s ≤ faces → budget faces s ≤ n
+      → (walk (plainMachine rules target) n s ≡ walk (plainMachine rules target) (budget faces s) s)
+      × (foldList (plainMachine rules target) n s ≡ foldList (plainMachine rules target) (budget faces s) s)
+  walk-enough faces n s sound few = machines.walk-enough (plain-ending faces) n s (sound, few)

@@ -4,6 +4,7 @@ pub mod Points
 pub mod Pairs
 pub mod FoldTest
 pub mod Fold
+pub mod Machines
 pub mod Walk
 pub mod Output
 pub mod Sound

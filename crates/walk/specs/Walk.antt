@@ -1,5 +1,5 @@
 -- The plain walk: the meaning of thinning (document 01, "Pairs, folds, ends"). No heap, no stamps, every cost worked out anew.
-use Prim.Native.Nat.{ℕ, zero, suc, _+_, _*_}
+use Prim.Native.Nat.{ℕ, _+_, _*_}
 use mathlib.Core.Path.{_≡_}
 use mathlib.Core.List.{List, [], _∷_, _++_}
 use mathlib.Core.Bool.{_&&_, cond}
@@ -11,6 +11,7 @@ use Rattle.walk.specs.Points.{Rules, Mesh}
 use Rattle.walk.specs.Pairs.{samePair, apart, pairsBelow, rises, eligiblePair, least, opened}
 use Rattle.walk.specs.FoldTest.{allowed}
 use Rattle.walk.specs.Fold.{foldedMesh}
+use Rattle.walk.specs.Machines.{Machine}
 
 -- ---- the state, and one step
 
@@ -69,15 +70,6 @@ module _ {D : Type 0} (rules : Rules D) where
   after s (closed p) = record { mesh = s .mesh; «open» = without (samePair p) (s .«open») }
   after s ended = s
 
-  -- ---- the walk: the step on a budget
-
-  unfoldable pub walk : ℕ → ℕ → State D → State D
-  unfolding after answer
-  walk target zero s = s
-  walk target (suc n) s = walk target n (after s (answer target s))
-
-  -- the pairs folded on the way, in order
-  unfoldable pub foldList : ℕ → ℕ → State D → List Pair
-  unfolding foldOf after answer
-  foldList target zero s = []
-  foldList target (suc n) s = foldOf (answer target s) ++ foldList target n (after s (answer target s))
+  -- the plain walk as a machine: its walk is the meaning of thinning
+  abbrev pub plainMachine : ℕ → Machine (State D) Answer
+  plainMachine target = record { answer = answer target; after = after; foldOf = foldOf; ended = ended }

@@ -1,5 +1,5 @@
 -- What a fold leaves in the memory.
-use Prim.Native.Nat.{ℕ, _+_, _*_}
+use Prim.Native.Nat.{ℕ, _*_}
 use mathlib.Core.Path.{_≡_}
 use mathlib.Core.List.{List}
 use lib.ListN.{length, drop}
@@ -13,17 +13,18 @@ use Rattle.lists.specs.Frames.{But}
 use Rattle.mesh.specs.Contracts.Chains.{Tidy}
 use Rattle.memory.specs.Points.{meshOf}
 use Rattle.meaning.specs.Arithmetic.{rulesOf}
+use Rattle.memory.specs.Layout.{kindsFrom}
 
 -- the faces after the fold: those that hold both are gone, remove's number is keep's in the rest, and each is listed at its points again
 pub record FacesFolded (v f : ℕ) (w : List ℕ) (keep remove : ℕ) (w' : List ℕ) (gone : ℕ) : Type 0 where
-  pub but : But 0 (7 * f + v) w w'
+  pub but : But 0 (kindsFrom v f) w w'
   pub tidy : Tidy v f w'
   pub same-faces : liveFaces f w' ≡ foldedFaces (liveFaces f w) (pairOf keep remove)
   pub counted : gone ≡ shared (liveFaces f w) keep remove
 
 -- the whole fold: the mesh in memory is the folded mesh
 pub record MeshFolded (v f : ℕ) (limit : Limit) (bound : Float) (w : List ℕ) (p q : List Float) (keep remove : ℕ) (w' : List ℕ) (p' q' : List Float) (gone : ℕ) : Type 0 where
-  pub but : But 0 (7 * f + v) w w'
+  pub but : But 0 (kindsFrom v f) w w'
   pub tidy : Tidy v f w'
   pub same-mesh : meshOf v f w' p' q' ≡ foldedMesh (rulesOf limit bound) (meshOf v f w p q) (pairOf keep remove)
   pub counted : gone ≡ shared (liveFaces f w) keep remove

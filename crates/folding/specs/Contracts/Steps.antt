@@ -6,6 +6,7 @@ use lib.Dec.{eqb}
 use lib.ListN.{set}
 use Rattle.walk.specs.Faces.{holds, faceAt}
 use Rattle.memory.specs.Memory.{corner, first, lives}
+use Rattle.memory.specs.Layout.{firstsFrom, livesFrom, nextsFrom}
 
 -- a step for each slot of a list, in order
 unfoldable pub inTurn : (ℕ → List ℕ → List ℕ) → List ℕ → List ℕ → List ℕ
@@ -14,7 +15,7 @@ inTurn step (k ∷ ks) w = inTurn step ks (step k w)
 
 -- the face in slot k is killed if it holds x
 unfoldable pub killed : ℕ → ℕ → ℕ → List ℕ → List ℕ
-killed f x k w = cond (holds x (faceAt w k)) (set w (3 * f + k) 0) w
+killed f x k w = cond (holds x (faceAt w k)) (set w (livesFrom f + k) 0) w
 
 -- which corner of the face in slot k is at x: its first, its second, or else its third
 unfoldable pub cornerOf : List ℕ → ℕ → ℕ → ℕ
@@ -22,7 +23,7 @@ cornerOf w k x = cond (eqb (corner w (3 * k)) x) (3 * k) (cond (eqb (corner w (3
 
 -- the corner c gets the point new, and is put at the head of that point's chain
 unfoldable pub moved : ℕ → ℕ → ℕ → List ℕ → List ℕ
-moved f c new w = set (set (set w c new) (4 * f + c) (first f (set w c new) new)) (7 * f + new) (c + 1)
+moved f c new w = set (set (set w c new) (nextsFrom f + c) (first f (set w c new) new)) (firstsFrom f + new) (c + 1)
 
 -- in slot k, where the face is live, the corner at old gets the point new
 unfoldable pub relisted : ℕ → ℕ → ℕ → ℕ → List ℕ → List ℕ

@@ -13,31 +13,24 @@ is-fair-around-requires c κs =
     let first = c .before .before .before .before in
     rw (first .is-linked .ensures .1) (first .before .before .before .before .pre)
 
-same-length : tie.Need-same-length
-same-length c = search needs
-
 returns : tie.Need-returns
 returns c =
     let test = c .before .before in
     let first = test .before .before .before in
     let a = first .before .before .before .before .args in (
-      allowed-decided (a .v) (a .f) (a .w .now) (a .p .now) (a .keep) (a .remove) (a .place) (first .is-linked .ensures .0) (test .if1 .taken)
+      allowed-decided (a .v) (a .f) (a .w .now) (a .p .now) (a .fold .keep) (a .fold .remove) (a .fold .place) (first .is-linked .ensures .0) (test .if1 .taken)
           (first .is-linked .ensures .1) (c .is-fair-around .ensures),
       first .is-linked .ensures .1,
     )
-
-same-length-2 : tie.Need-same-length-2
-same-length-2 c = search needs
 
 returns-2 : tie.Need-returns-2
 returns-2 c =
     let first = c .before .before .before in
     let a = first .before .before .before .before .args in (
-      not-allowed (a .v) (a .f) (a .w .now) (a .p .now) (a .keep) (a .remove) (a .place) (first .is-linked .ensures .0) (c .if1 .left),
+      not-allowed (a .v) (a .f) (a .w .now) (a .p .now) (a .fold .keep) (a .fold .remove) (a .fold .place) (first .is-linked .ensures .0) (c .if1 .left),
       first .is-linked .ensures .1,
     )
 
 pub is-allowed-spec : {M : Type 1} → statement M
 is-allowed-spec =
-    tie.close
-    (tie.spec is-linked-requires is-fair-around-requires same-length returns same-length-2 returns-2)
+    tie.close (tie.spec is-linked-requires is-fair-around-requires (λ c. search needs) returns (λ c. search needs) returns-2)

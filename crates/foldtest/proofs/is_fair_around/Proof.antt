@@ -14,7 +14,7 @@ returns : tie.Need-returns
 returns c =
     let start = c .before .before .before .before in
     let lists = start .pre .1 .1 in
-    not-fair (start .args .p .now) (start .args .place) (lists .0 .gathered) (lists .1 .gathered) (c .before .has-harmed .ensures)
+    not-fair (start .args .p .now) (start .args .fold .place) (lists .0 .gathered) (lists .1 .gathered) (c .before .has-harmed .ensures)
     (c .if1 .taken)
 
 has-harmed-requires-2 : tie.Need-has-harmed-requires-2
@@ -27,7 +27,7 @@ returns-2 c =
     let first = c .before .before in
     let start = first .before .before .before in
     let lists = start .pre .1 .1 in
-    fair-decided (start .args .p .now) (start .args .place) (lists .0 .gathered) (lists .1 .gathered) (first .has-harmed .ensures)
+    fair-decided (start .args .p .now) (start .args .fold .place) (lists .0 .gathered) (lists .1 .gathered) (first .has-harmed .ensures)
     (c .before .if1 .left) (c .has-harmed2 .ensures)
 
 pub is-fair-around-spec : {M : Type 1} → statement M

@@ -11,7 +11,7 @@ returns : tie.Need-returns
 returns c =
     let asked = c .before in
     let a = asked .before .before .before .before .args in
-    spared (a .p .now) (a .keep) (a .remove) (a .place) (a .other) (asked .before .face-in .ensures) (asked .face-holds .ensures) (c .if1 .taken)
+    spared (a .p .now) (a .fold .keep) (a .fold .remove) (a .fold .place) (a .other) (asked .before .face-in .ensures) (asked .face-holds .ensures) (c .if1 .taken)
 
 is-fair-requires : tie.Need-is-fair-requires
 is-fair-requires c κs =
@@ -24,7 +24,7 @@ returns-2 : tie.Need-returns-2
 returns-2 c =
     let asked = c .before .before in
     let a = asked .before .before .before .before .args in
-    harm-decided (a .p .now) (a .keep) (a .remove) (a .place) (a .other) (asked .before .face-in .ensures) (asked .face-holds .ensures)
+    harm-decided (a .p .now) (a .fold .keep) (a .fold .remove) (a .fold .place) (a .other) (asked .before .face-in .ensures) (asked .face-holds .ensures)
     (c .before .if1 .left) (c .is-fair .ensures)
 
 pub is-harmed-spec : {M : Type 1} → statement M

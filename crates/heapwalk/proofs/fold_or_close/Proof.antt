@@ -21,13 +21,13 @@ entry c = c .before .before .before .before .before
 -- what the test answers, in the words of the definition
 allowed-told : (c : tie.After-is-allowed) → let a = entry (c .before) .args in
     c .is-allowed .result
-    ≡ allowed (rulesOf (a .limit) (a .bound)) (meshOf (a .v) (a .f) (a .w .now) (a .p .now) (a .q .now)) (pairOf (a .keep) (a .remove))
+    ≡ allowed (rulesOf (a .bounds .limit) (a .bounds .size)) (meshOf (a .v) (a .f) (a .w .now) (a .p .now) (a .q .now)) (pairOf (a .fold .keep) (a .fold .remove))
 allowed-told c =
     let a = entry (c .before) .args in
     let h = entry (c .before) .pre .0 in
     let points = pair-points h in
     c .is-allowed .ensures .0
-    ∙ allowed-is (a .limit) (a .bound) (a .v) (a .f) (a .w .now) (a .p .now) (a .q .now) (points .0) (points .1) (h .same-place)
+    ∙ allowed-is (a .bounds .limit) (a .bounds .size) (a .v) (a .f) (a .w .now) (a .p .now) (a .q .now) (points .0) (points .1) (h .same-place)
     (h .held .«open» .tidy .faces-proper)
 
 is-allowed-requires : tie.Need-is-allowed-requires
@@ -77,7 +77,7 @@ returns-2 c =
     let at = c .before .before .before in
     let s = entry (at .before) in
     rw (at .is-allowed .ensures .1)
-    (tried-by _ _ _ _ _ _ _ _ _ _ (at .is-allowed .result) false (c .if1 .left) (allowed-told at) (closed-done (s .pre .0) (s .args .limit)))
+    (tried-by _ _ _ _ _ _ _ _ _ _ (at .is-allowed .result) false (c .if1 .left) (allowed-told at) (closed-done (s .pre .0) (s .args .bounds .limit)))
 
 pub fold-or-close-spec : {M : Type 1} → statement M
 fold-or-close-spec =

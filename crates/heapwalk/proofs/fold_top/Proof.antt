@@ -27,9 +27,9 @@ at-entering c = c .before .before .before .before .before .before
 
 -- the fold of the mesh, once the place is known
 fold-of : (c : tie.After-fold-mesh) → let s = entry (c .before) in
-    MeshFolded (s .args .v) (s .args .f) (s .args .limit) (s .args .bound) (s .args .w .now) (s .args .p .now) (s .args .q .now) (s .args .keep) (s .args .remove)
+    MeshFolded (s .args .v) (s .args .f) (s .args .bounds .limit) (s .args .bounds .size) (s .args .w .now) (s .args .p .now) (s .args .q .now) (s .args .fold .keep) (s .args .fold .remove)
     (c .fold-mesh .last .0) (c .fold-mesh .last .1 .0) (c .fold-mesh .last .1 .1 .0) (c .fold-mesh .result)
-fold-of c = let s = entry (c .before) in c .fold-mesh .ensures (s .args .limit) (s .args .bound) (s .pre .0 .same-place)
+fold-of c = let s = entry (c .before) in c .fold-mesh .ensures (s .args .bounds .limit) (s .args .bounds .size) (s .pre .0 .same-place)
 
 fold-mesh-requires : tie.Need-fold-mesh-requires
 fold-mesh-requires c κs =
@@ -56,11 +56,21 @@ fold-mesh-requires c κs =
       ),
     )
 
+cast-bump : tie.Need-cast-bump
+cast-bump c =
+    let at = c .before .before .before .before .before .before .before in
+    omega (arith, pair-points (entry (at .before) .pre .0) .0)
+
 bump-requires : tie.Need-bump-requires
 bump-requires c κs =
     let at = c .before .before .before .before .before .before .before in
     let grows = keep-grows (entry (at .before) .pre .0) (fold-of at) in
     (grows .0, (grows .1, grows .2))
+
+cast-bump-2 : tie.Need-cast-bump-2
+cast-bump-2 c =
+    let at = at-fold (c .before .before .before) in
+    omega (arith, pair-points (entry (at .before) .pre .0) .1)
 
 bump-requires-2 : tie.Need-bump-requires-2
 bump-requires-2 c κs =
@@ -105,7 +115,9 @@ fold-top-spec =
     tie.close
     (tie.spec
     fold-mesh-requires
+    cast-bump
     bump-requires
+    cast-bump-2
     bump-requires-2
     enter-around-requires
     sub-left

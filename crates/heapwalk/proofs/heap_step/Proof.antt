@@ -24,7 +24,7 @@ taken c = took-entry (c .before .before .before .before .s .given .1) (at-take c
 returns : tie.Need-returns
 returns c =
     let s = c .before .before .before .before in
-    at-target (s .pre) (s .args .target) (s .args .limit) (omega (arith, c .if1 .taken))
+    at-target (s .pre) (s .args .target) (s .args .bounds .limit) (omega (arith, c .if1 .taken))
 
 take-current-requires : tie.Need-take-current-requires
 take-current-requires c κs = search needs
@@ -35,7 +35,7 @@ enum-known-s c = search needs
 try-top-requires : tie.Need-try-top-requires
 try-top-requires c κs =
     let s = entry (at-take c) in
-    top-holds (s .pre) (s .args .target) (s .args .limit) (taken c)
+    top-holds (s .pre) (s .args .target) (s .args .bounds .limit) (taken c)
 
 enum-told : tie.Need-enum-told
 enum-told c = search needs
@@ -54,7 +54,7 @@ returns-2 c =
     let done = c .before .before .before .before .before .before in
     let at = at-take (done .before) in
     let s = entry at in
-    taken-step (s .pre) (s .args .target) (s .args .limit) (taken (done .before)) (omega (arith, at .before .before .before .if1 .left)) (done .try-top .ensures)
+    taken-step (s .pre) (s .args .target) (s .args .bounds .limit) (taken (done .before)) (omega (arith, at .before .before .before .if1 .left)) (done .try-top .ensures)
 
 same-length-4 : tie.Need-same-length-4
 same-length-4 c = search needs
@@ -66,7 +66,7 @@ returns-3 : tie.Need-returns-3
 returns-3 c =
     let at = c .before .before .before .before in
     let s = entry at in
-    none-left (s .pre) (s .args .target) (s .args .limit) (took-none (c .enum-told .given .1) (at .take-current .ensures))
+    none-left (s .pre) (s .args .target) (s .args .bounds .limit) (took-none (c .enum-told .given .1) (at .take-current .ensures))
 
 pub heap-step-spec : {M : Type 1} → statement M
 heap-step-spec =

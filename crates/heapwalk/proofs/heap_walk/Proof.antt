@@ -10,8 +10,9 @@ enter-start-requires c κs = search needs
 
 walk-on-requires : tie.Need-walk-on-requires
 walk-on-requires c κs =
-    let s = c .before .before .before .before .before .before .before .before .before .before .before .before .before .before .before .before in
-    start-holds (s .args .limit) (s .args .bound) (s .pre .0) (s .pre .1 .0) (c .before .before .before .before .before .before .before .before .before .enter-start .ensures)
+    let entered = c .before .before .before .before .before .before .before .before .before in
+    let s = entered .before .before .before .before .before .before .before in
+    start-holds (s .args .bounds .limit) (s .args .bounds .size) (s .pre .0) (s .pre .1 .0) (entered .enter-start .ensures)
 
 same-length : tie.Need-same-length
 same-length c = search needs
@@ -24,8 +25,10 @@ same-length-3 c = search needs
 
 returns : tie.Need-returns
 returns c =
-    let s = c .before .before .before .before .before .before .before .before .before .before .before .before .before .before .before .before .before .before .before .before .before .before .before in
-    walk-done (s .args .limit) (s .args .bound) (s .pre .0) (s .pre .1 .0) (c .before .before .before .before .before .before .before .before .before .before .before .before .before .before .before .before .enter-start .ensures) (c .before .before .before .before .before .before .walk-on .ensures)
+    let walked = c .before .before .before .before .before .before in
+    let entered = walked .before .before .before .before .before .before .before .before .before .before in
+    let s = entered .before .before .before .before .before .before .before in
+    walk-done (s .args .bounds .limit) (s .args .bounds .size) (s .pre .0) (s .pre .1 .0) (entered .enter-start .ensures) (walked .walk-on .ensures)
 
 pub heap-walk-spec : {M : Type 1} → statement M
 heap-walk-spec = tie.close (tie.spec enter-start-requires walk-on-requires same-length same-length-2 same-length-3 returns)

@@ -4,50 +4,65 @@ use native.Mathlib.Omega.{arith}
 use borrow.Author.Needs.{needs}
 use Rattle.walk.specs.Walk.{budget}
 use Rattle.queue.specs.State.{heapState}
-use Rattle.plainwalk.proofs.GoingLaws.{Going, going-start, folds-few, room-folded, turn-folded, turn-closed, less-folded, less-closed, going-end}
+use Rattle.plainwalk.proofs.LentLaws.{lent, Walking, walking-start, folds-few, room-folded, turn-folded, turn-closed, less-folded, less-closed, walking-end}
 use Rattle.heapwalk.proofs.HoldLaws.{byHeap, heap-step}
 use Rattle.heapwalk.proofs.walk_on.Statement.{statement}
 use Rattle.heapwalk.proofs.walk_on.Tie as tie
 
 abbrev Inv-loop : tie.InvT-loop
-Inv-loop w₀ p₀ q₀ v f n₀ live₀ target limit bound open₀ faces₀ folds₀ w p q n live folds = Going (byHeap v f bound) w₀ p₀ q₀ n₀ target limit bound w p q n live folds
+Inv-loop w₀ p₀ q₀ v f n₀ live₀ target bounds open₀ faces₀ folds₀ w p q n live folds =
+    Walking (byHeap v f (bounds .size)) target (bounds .limit) (bounds .size) (lent w₀ p₀ q₀ n₀ live₀) (lent w p q n live) folds
 
 abbrev μ-loop : tie.MeasureT-loop
-μ-loop w₀ p₀ q₀ v f n₀ live₀ target limit bound open₀ faces₀ folds₀ w p q n live folds = budget f (heapState v f w p q n)
+μ-loop w₀ p₀ q₀ v f n₀ live₀ target bounds open₀ faces₀ folds₀ w p q n live folds = budget f (heapState v f w p q n)
 
 loop-holds : tie.Need-loop-holds Inv-loop μ-loop
-loop-holds c = going-start (byHeap (c .before .before .before .args .v) (c .before .before .before .args .f) (c .before .before .before .args .bound)) (c .before .before .before .args .target) (c .before .before .before .args .limit) (c .before .before .before .args .bound) _ _ _ _ _ (c .before .before .before .pre)
+loop-holds c =
+    let start = c .before .before .before in
+    walking-start (byHeap (start .args .v) (start .args .f) (start .args .bounds .size)) (start .args .target) (start .args .bounds .limit) (start .args .bounds .size) _ (start .pre)
 
 heap-step-requires : tie.Need-heap-step-requires Inv-loop μ-loop
-heap-step-requires c κs = c .before .before .before .loop .inv .holds
+heap-step-requires c κs = c .before .before .before .loop .inv .going .holds
 
 enum-known-step : tie.Need-enum-known-step Inv-loop μ-loop
 enum-known-step c = search needs
 
 note-fold-requires : tie.Need-note-fold-requires Inv-loop μ-loop
-note-fold-requires c κs = room-folded (byHeap (c .before .before .before .before .before .before .before .before .before .before .before .before .before .before .before .before .before .before .args .v) (c .before .before .before .before .before .before .before .before .before .before .before .before .before .before .before .before .before .before .args .f) (c .before .before .before .before .before .before .before .before .before .before .before .before .before .before .before .before .before .before .args .bound)) (c .before .before .before .before .before .before .before .before .before .before .before .before .before .before .before .before .before .before .args .target) (c .before .before .before .before .before .before .before .before .before .before .before .before .before .before .before .before .before .before .args .limit) (c .before .before .before .before .before .before .before .before .before .before .before .before .before .before .before .before .before .before .args .bound) (c .before .before .before .before .before .before .before .before .before .before .before .before .before .before .before .before .before .before .pre) (c .before .before .before .before .before .before .before .before .before .before .before .before .before .before .loop .inv) (heap-step (c .before .before .before .before .before .before .before .before .before .before .heap-step .ensures)) (c .before .before .step .given .1)
+note-fold-requires c κs =
+    let stepped = c .before .before .before .before .before .before .before .before .before .before in
+    room-folded (stepped .before .before .before .before .loop .inv) (heap-step (stepped .heap-step .ensures)) (c .before .before .step .given .1)
 
 add-folds : tie.Need-add-folds Inv-loop μ-loop
-add-folds c = omega (arith, folds-few (byHeap (c .before .before .before .before .before .before .before .before .before .before .before .before .before .before .before .before .before .before .before .before .before .args .v) (c .before .before .before .before .before .before .before .before .before .before .before .before .before .before .before .before .before .before .before .before .before .args .f) (c .before .before .before .before .before .before .before .before .before .before .before .before .before .before .before .before .before .before .before .before .before .args .bound)) (c .before .before .before .before .before .before .before .before .before .before .before .before .before .before .before .before .before .before .before .before .before .args .target) (c .before .before .before .before .before .before .before .before .before .before .before .before .before .before .before .before .before .before .before .before .before .args .limit) (c .before .before .before .before .before .before .before .before .before .before .before .before .before .before .before .before .before .before .before .before .before .args .bound) (c .before .before .before .before .before .before .before .before .before .before .before .before .before .before .before .before .before .before .before .before .before .pre) (c .before .before .before .before .before .before .before .before .before .before .before .before .before .before .before .before .before .loop .inv), c .before .before .before .before .before .before .before .before .before .before .before .before .before .before .before .before .before .before .before .before .before .pre .«open» .tidy .room)
+add-folds c =
+    let turn = c .before .before .before .before .before .before .before .before .before .before .before .before .before .before .before .before .before in
+    omega (arith, folds-few (turn .loop .inv), turn .before .before .before .before .pre .«open» .tidy .room)
 
 loop-less : tie.Need-loop-less Inv-loop μ-loop
 loop-less c =
-    rw (c .before .before .note-fold .ensures)
-    (less-folded (byHeap (c .before .before .before .before .before .before .before .before .before .before .before .before .before .before .before .before .before .before .before .before .before .args .v) (c .before .before .before .before .before .before .before .before .before .before .before .before .before .before .before .before .before .before .before .before .before .args .f) (c .before .before .before .before .before .before .before .before .before .before .before .before .before .before .before .before .before .before .before .before .before .args .bound)) (c .before .before .before .before .before .before .before .before .before .before .before .before .before .before .before .before .before .before .before .before .before .args .target) (c .before .before .before .before .before .before .before .before .before .before .before .before .before .before .before .before .before .before .before .before .before .args .limit) (c .before .before .before .before .before .before .before .before .before .before .before .before .before .before .before .before .before .before .before .before .before .args .bound) (c .before .before .before .before .before .before .before .before .before .before .before .before .before .before .before .before .before .before .before .before .before .pre) (c .before .before .before .before .before .before .before .before .before .before .before .before .before .before .before .before .before .loop .inv) (heap-step (c .before .before .before .before .before .before .before .before .before .before .before .before .before .heap-step .ensures)) (c .before .before .before .before .before .step .given .1))
+    let noted = c .before .before in
+    let stepped = noted .before .before .before .before .before .before .before .before .before .before .before in
+    rw (noted .note-fold .ensures)
+    (less-folded (stepped .before .before .before .before .loop .inv) (heap-step (stepped .heap-step .ensures)) (noted .before .before .before .step .given .1))
 
 loop-again : tie.Need-loop-again Inv-loop μ-loop
 loop-again c =
-    rw (c .before .before .note-fold .ensures)
-    (turn-folded (byHeap (c .before .before .before .before .before .before .before .before .before .before .before .before .before .before .before .before .before .before .before .before .before .args .v) (c .before .before .before .before .before .before .before .before .before .before .before .before .before .before .before .before .before .before .before .before .before .args .f) (c .before .before .before .before .before .before .before .before .before .before .before .before .before .before .before .before .before .before .before .before .before .args .bound)) (c .before .before .before .before .before .before .before .before .before .before .before .before .before .before .before .before .before .before .before .before .before .args .target) (c .before .before .before .before .before .before .before .before .before .before .before .before .before .before .before .before .before .before .before .before .before .args .limit) (c .before .before .before .before .before .before .before .before .before .before .before .before .before .before .before .before .before .before .before .before .before .args .bound) (c .before .before .before .before .before .before .before .before .before .before .before .before .before .before .before .before .before .before .before .before .before .pre) (c .before .before .before .before .before .before .before .before .before .before .before .before .before .before .before .before .before .loop .inv) (heap-step (c .before .before .before .before .before .before .before .before .before .before .before .before .before .heap-step .ensures)) (c .before .before .before .before .before .step .given .1))
+    let noted = c .before .before in
+    let stepped = noted .before .before .before .before .before .before .before .before .before .before .before in
+    rw (noted .note-fold .ensures)
+    (turn-folded (stepped .before .before .before .before .loop .inv) (heap-step (stepped .heap-step .ensures)) (noted .before .before .before .step .given .1))
 
 enum-told : tie.Need-enum-told Inv-loop μ-loop
 enum-told c = search needs
 
 loop-less-2 : tie.Need-loop-less-2 Inv-loop μ-loop
-loop-less-2 c = less-closed (byHeap (c .before .before .before .before .before .before .before .before .before .before .before .before .before .before .before .before .args .v) (c .before .before .before .before .before .before .before .before .before .before .before .before .before .before .before .before .args .f) (c .before .before .before .before .before .before .before .before .before .before .before .before .before .before .before .before .args .bound)) (c .before .before .before .before .before .before .before .before .before .before .before .before .before .before .before .before .args .target) (c .before .before .before .before .before .before .before .before .before .before .before .before .before .before .before .before .args .limit) (c .before .before .before .before .before .before .before .before .before .before .before .before .before .before .before .before .args .bound) (c .before .before .before .before .before .before .before .before .before .before .before .before .before .before .before .before .pre) (c .before .before .before .before .before .before .before .before .before .before .before .before .loop .inv) (heap-step (c .before .before .before .before .before .before .before .before .heap-step .ensures)) (c .enum-told .given .1)
+loop-less-2 c =
+    let stepped = c .before .before .before .before .before .before .before .before in
+    less-closed (stepped .before .before .before .before .loop .inv) (heap-step (stepped .heap-step .ensures)) (c .enum-told .given .1)
 
 loop-again-2 : tie.Need-loop-again-2 Inv-loop μ-loop
-loop-again-2 c = turn-closed (byHeap (c .before .before .before .before .before .before .before .before .before .before .before .before .before .before .before .before .args .v) (c .before .before .before .before .before .before .before .before .before .before .before .before .before .before .before .before .args .f) (c .before .before .before .before .before .before .before .before .before .before .before .before .before .before .before .before .args .bound)) (c .before .before .before .before .before .before .before .before .before .before .before .before .before .before .before .before .args .target) (c .before .before .before .before .before .before .before .before .before .before .before .before .before .before .before .before .args .limit) (c .before .before .before .before .before .before .before .before .before .before .before .before .before .before .before .before .args .bound) (c .before .before .before .before .before .before .before .before .before .before .before .before .before .before .before .before .pre) (c .before .before .before .before .before .before .before .before .before .before .before .before .loop .inv) (heap-step (c .before .before .before .before .before .before .before .before .heap-step .ensures)) (c .enum-told .given .1)
+loop-again-2 c =
+    let stepped = c .before .before .before .before .before .before .before .before in
+    turn-closed (stepped .before .before .before .before .loop .inv) (heap-step (stepped .heap-step .ensures)) (c .enum-told .given .1)
 
 enum-told-2 : tie.Need-enum-told-2 Inv-loop μ-loop
 enum-told-2 c = search needs
@@ -62,7 +77,9 @@ same-length-3 : tie.Need-same-length-3 Inv-loop μ-loop
 same-length-3 c = search needs
 
 returns : tie.Need-returns Inv-loop μ-loop
-returns c = going-end (byHeap (c .before .before .before .before .before .before .before .before .before .before .before .before .before .before .before .before .args .v) (c .before .before .before .before .before .before .before .before .before .before .before .before .before .before .before .before .args .f) (c .before .before .before .before .before .before .before .before .before .before .before .before .before .before .before .before .args .bound)) (c .before .before .before .before .before .before .before .before .before .before .before .before .before .before .before .before .args .target) (c .before .before .before .before .before .before .before .before .before .before .before .before .before .before .before .before .args .limit) (c .before .before .before .before .before .before .before .before .before .before .before .before .before .before .before .before .args .bound) (c .before .before .before .before .before .before .before .before .before .before .before .before .before .before .before .before .pre) (c .before .before .before .before .before .before .before .before .before .before .before .before .loop .inv) (heap-step (c .before .before .before .before .before .before .before .before .heap-step .ensures)) (c .enum-told2 .given .1)
+returns c =
+    let stepped = c .before .before .before .before .before .before .before .before in
+    walking-end (stepped .before .before .before .before .loop .inv) (heap-step (stepped .heap-step .ensures)) (c .enum-told2 .given .1)
 
 pub walk-on-spec : {M : Type 1} → statement M
 walk-on-spec =

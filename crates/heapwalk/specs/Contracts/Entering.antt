@@ -1,5 +1,5 @@
 -- Pairs are opened into the queue: what that asks, and what it leaves.
-use Prim.Native.Nat.{ℕ, _+_, _*_, _≤_, _<_}
+use Prim.Native.Nat.{ℕ, _*_, _≤_, _<_}
 use mathlib.Core.Path.{_≡_}
 use mathlib.Core.List.{List}
 use lib.ListN.{length}
@@ -12,11 +12,12 @@ use Rattle.memory.specs.Entries.{stamp}
 use Rattle.queue.specs.State.{openIn}
 use Rattle.queue.specs.Contracts.Queued.{Queue, Kept}
 use Rattle.queue.specs.Contracts.Changes.{Enqueued}
+use Rattle.memory.specs.Layout.{costsTo, foldsFrom, placesTo, stampsFrom}
 
 -- the memory holds a mesh and a queue of n entries
 pub record Open (v f : ℕ) (w : List ℕ) (p q : List Float) (n : ℕ) (bound : Float) : Type 0 where
   pub tidy : Tidy v f w
-  pub places-long : 3 * v + 9 * f ≤ length p
+  pub places-long : placesTo v f ≤ length p
   pub queue : Queue v f w q n
   pub kept : Kept v f w p q n bound
 
@@ -28,9 +29,9 @@ pub record Entered (v f : ℕ) (w : List ℕ) (p q : List Float) (n : ℕ) (boun
 
 -- the queue at the start: it holds an entry for each pair of a list, and no stamp has grown
 pub record Started (v f : ℕ) (w : List ℕ) (p q : List Float) (bound : Float) (more : List Pair) (w' : List ℕ) (p' q' : List Float) (n' : ℕ) : Type 0 where
-  pub but : But (7 * f + 3 * v) (24 * f + 5 * v) w w'
-  pub points-but : FloatsBut (3 * v) (3 * v + 9 * f) p p'
-  pub quadrics-but : FloatsBut (10 * v) (10 * v + 3 * f) q q'
+  pub but : But (stampsFrom v f) (foldsFrom v f) w w'
+  pub points-but : FloatsBut (3 * v) (placesTo v f) p p'
+  pub quadrics-but : FloatsBut (10 * v) (costsTo v f) q q'
   pub «open» : Open v f w' p' q' n' bound
   pub stamps : (x : ℕ) → x < v → stamp v f w' x ≡ 0
   pub sums : (g : Pair → ℕ) → sum g (openIn v f w' n') ≡ sum g more

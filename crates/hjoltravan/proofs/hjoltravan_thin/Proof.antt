@@ -1,12 +1,16 @@
--- `hjoltravan::hjoltravan_thin` meets its contract: what the entry answers, with the limit that was asked for, told in five numbers.
+-- `hjoltravan::hjoltravan_thin` meets its contract: what the entry answers by the heap walk, told in five numbers.
 -- Assumes nothing.
 use borrow.Author.Needs.{needs}
+use Rattle.meaning.specs.Call.{lent, inputOf}
 use Rattle.hjoltravan.proofs.CallLaws.{called}
 use Rattle.hjoltravan.proofs.hjoltravan_thin.Statement.{statement}
 use Rattle.hjoltravan.proofs.hjoltravan_thin.Tie as tie
 
-limit-of-requires : tie.Need-limit-of-requires
-limit-of-requires c κs = search needs
+options-of-requires : tie.Need-options-of-requires
+options-of-requires c κs = search needs
+
+slice-aggregate-thin : tie.Need-slice-aggregate-thin
+slice-aggregate-thin c = search needs
 
 thin-requires : tie.Need-thin-requires
 thin-requires c κs = search needs
@@ -15,30 +19,34 @@ tell-requires : tie.Need-tell-requires
 tell-requires c κs = search needs
 
 same-length : tie.Need-same-length
-same-length c = search needs
+same-length c = c .before .before .before .before .before .before .before .before .before .before .before .before .out-points .given
 
 same-length-2 : tie.Need-same-length-2
-same-length-2 c = search needs
+same-length-2 c = c .before .before .before .before .before .before .before .before .before .before .out-faces .given
 
 same-length-3 : tie.Need-same-length-3
-same-length-3 c = search needs
+same-length-3 c = c .before .before .before .before .before .before .before .before .work-u32 .given
 
 same-length-4 : tie.Need-same-length-4
-same-length-4 c = search needs
+same-length-4 c = c .before .before .before .before .before .before .work-f32 .given
 
 same-length-5 : tie.Need-same-length-5
-same-length-5 c = search needs
+same-length-5 c = c .before .before .before .before .work-f64 .given
 
 returns : tie.Need-returns
 returns c =
-    let call = c .before .before .before .before .before .before .before .before .before .before .before .before in
-    called (rw (call .before .before .before .before .before .before .limit-of .ensures) at (call .thin .ensures)) (c .tell .ensures)
+    let call = c .before .before .before .before .before .before .before .before .before .before .before .before .before in
+    let made = call .before .before .before .before .before .before .before in
+    let a = made .before .before .before .before .before .before .before .before .args in
+    called (λ options. inputOf (a .points .now) (a .faces .now) options (lent (a .out-points .now) (a .out-faces .now) (a .work-u32 .now) (a .work-f32 .now) (a .work-f64 .now)))
+    (made .options-of .ensures) (call .thin .ensures) (c .tell .ensures)
 
 pub hjoltravan-thin-spec : {M : Type 1} → statement M
 hjoltravan-thin-spec =
     tie.close
     (tie.spec
-    limit-of-requires
+    options-of-requires
+    slice-aggregate-thin
     thin-requires
     tell-requires
     same-length

@@ -1,49 +1,52 @@
--- `hjoltravan::hjoltravan_thin_folds` meets its contract: what the entry answers, with the limit that was asked for, told in five numbers, and its folds.
+-- `hjoltravan::hjoltravan_thin_folds` meets its contract: what the entry answers by the heap walk, told in five numbers, and its folds.
 -- Assumes nothing.
 use borrow.Author.Needs.{needs}
-use Rattle.hjoltravan.proofs.CallLaws.{called}
+use Rattle.meaning.specs.Call.{lent, inputOf}
+use Rattle.hjoltravan.proofs.CallLaws.{called-with-folds}
 use Rattle.hjoltravan.proofs.hjoltravan_thin_folds.Statement.{statement}
 use Rattle.hjoltravan.proofs.hjoltravan_thin_folds.Tie as tie
 
-limit-of-requires : tie.Need-limit-of-requires
-limit-of-requires c κs = search needs
+options-of-requires : tie.Need-options-of-requires
+options-of-requires c κs = search needs
 
-thin-folds-requires : tie.Need-thin-folds-requires
-thin-folds-requires c κs = search needs
+thin-requires : tie.Need-thin-requires
+thin-requires c κs = search needs
 
 tell-requires : tie.Need-tell-requires
 tell-requires c κs = search needs
 
 same-length : tie.Need-same-length
-same-length c = search needs
+same-length c = c .before .before .before .before .before .before .before .before .before .before .before .before .before .out-points .given
 
 same-length-2 : tie.Need-same-length-2
-same-length-2 c = search needs
+same-length-2 c = c .before .before .before .before .before .before .before .before .before .before .before .out-faces .given
 
 same-length-3 : tie.Need-same-length-3
-same-length-3 c = search needs
+same-length-3 c = c .before .before .before .before .before .before .before .before .before .work-u32 .given
 
 same-length-4 : tie.Need-same-length-4
-same-length-4 c = search needs
+same-length-4 c = c .before .before .before .before .before .before .before .work-f32 .given
 
 same-length-5 : tie.Need-same-length-5
-same-length-5 c = search needs
+same-length-5 c = c .before .before .before .before .before .work-f64 .given
 
 same-length-6 : tie.Need-same-length-6
-same-length-6 c = search needs
+same-length-6 c = c .before .before .before .folds .given
 
 returns : tie.Need-returns
 returns c =
     let call = c .before .before .before .before .before .before .before .before .before .before .before .before .before .before in
-    let limit = call .before .before .before .before .before .before .before .limit-of .ensures in
-    (called (rw limit at (call .thin-folds .ensures .0)) (c .tell .ensures), rw limit at (call .thin-folds .ensures .1))
+    let made = call .before .before .before .before .before .before .before in
+    let a = made .before .before .before .before .before .before .before .before .before .args in
+    called-with-folds (λ options. inputOf (a .points .now) (a .faces .now) options (lent (a .out-points .now) (a .out-faces .now) (a .work-u32 .now) (a .work-f32 .now) (a .work-f64 .now)))
+    (made .options-of .ensures) (call .thin .ensures) (c .tell .ensures)
 
 pub hjoltravan-thin-folds-spec : {M : Type 1} → statement M
 hjoltravan-thin-folds-spec =
     tie.close
     (tie.spec
-    limit-of-requires
-    thin-folds-requires
+    options-of-requires
+    thin-requires
     tell-requires
     same-length
     same-length-2

@@ -4,9 +4,10 @@ use Prim.Native.Nat.{_*_, _-_, _≤_}
 use native.Mathlib.Omega.{arith}
 use mathlib.Core.Path.{_≡_}
 use borrow.Author.Needs.{needs}
-use Rattle.listing.specs.Texts.{pointLine, linesTo}
-use Rattle.listing.specs.Written.{Put}
-use Rattle.listing.proofs.StoreLaws.{none, line-more}
+use Rattle.text.specs.Lines.{linesTo}
+use Rattle.listing.specs.Texts.{pointLine}
+use Rattle.text.specs.Contracts.{Put}
+use Rattle.text.proofs.StoreLaws.{none, line-more}
 use Rattle.listing.proofs.put_points.Statement.{statement}
 use Rattle.listing.proofs.put_points.Tie as tie
 
@@ -20,20 +21,10 @@ loop-holds : tie.Need-loop-holds Inv-loop μ-loop
 unfolding linesTo
 loop-holds c = (omega arith, none _ _)
 
-put-point-requires : tie.Need-put-point-requires Inv-loop μ-loop
-put-point-requires c κs = search needs
-
-add-k : tie.Need-add-k Inv-loop μ-loop
-add-k c = search needs
-
-loop-less : tie.Need-loop-less Inv-loop μ-loop
-loop-less c = search needs
-
 loop-again : tie.Need-loop-again Inv-loop μ-loop
-loop-again c = (omega arith, line-more _ 27 _ (c .before .before .before .before .before .loop .inv .1) (c .before .before .put-point .ensures))
-
-same-length : tie.Need-same-length Inv-loop μ-loop
-same-length c = search needs
+loop-again c =
+    let written = c .before .before in
+    (omega arith, line-more _ 27 _ (written .before .before .before .loop .inv .1) (written .put-point .ensures))
 
 returns : tie.Need-returns Inv-loop μ-loop
 returns c =
@@ -47,9 +38,9 @@ put-points-spec =
     Inv-loop
     μ-loop
     loop-holds
-    put-point-requires
-    add-k
-    loop-less
+    (λ c κs. search needs)
+    (λ c. search needs)
+    (λ c. search needs)
     loop-again
-    same-length
+    (λ c. search needs)
     returns)

@@ -1,5 +1,5 @@
 -- What laying a mesh out in the memory leaves there.
-use Prim.Native.Nat.{ℕ, _+_, _*_, _<_}
+use Prim.Native.Nat.{ℕ, _<_}
 use mathlib.Core.Path.{_≡_}
 use mathlib.Core.List.{List}
 use mathlib.Core.Bool.{Bool, _&&_, cond}
@@ -7,16 +7,17 @@ use Rattle.walk.specs.Faces.{facesOf, borderPoint, borderCount}
 use Rattle.memory.specs.Memory.{liveFaces, kind}
 use Rattle.lists.specs.Frames.{But}
 use Rattle.mesh.specs.Contracts.Chains.{Tidy}
+use Rattle.memory.specs.Layout.{farFrom, kindsFrom, stampsFrom}
 
 -- the faces are in, all live, and each is listed at its points
 pub record Laid (v f : ℕ) (faces w w' : List ℕ) : Type 0 where
-  pub but : But 0 (7 * f + 3 * v) w w'
+  pub but : But 0 (stampsFrom v f) w w'
   pub tidy : Tidy v f w'
   pub same-faces : liveFaces f w' ≡ facesOf f faces
 
 -- every point has its kind: 1 for a border point where they are preserved, else 0. The number of border points is counted only where they are preserved.
 pub record Bordered (v f : ℕ) (preserve : Bool) (w w' : List ℕ) (n : ℕ) : Type 0 where
-  pub but : But (7 * f + v) (14 * f + 4 * v) w w'
+  pub but : But (kindsFrom v f) (farFrom v f) w w'
   pub tidy : Tidy v f w'
   pub kinds : (x : ℕ) → x < v → kind v f w' x ≡ cond (preserve && borderPoint v (liveFaces f w) x) 1 0
   pub counted : n ≡ cond preserve (borderCount v (liveFaces f w)) 0

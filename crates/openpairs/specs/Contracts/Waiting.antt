@@ -11,6 +11,7 @@ use Rattle.lists.specs.Lists.{those}
 use Rattle.walk.specs.Pairs.{pairOf}
 use Rattle.memory.specs.Memory.{Room, aroundIn}
 use Rattle.memory.specs.Points.{vertexAt}
+use Rattle.memory.specs.Layout.{aroundFrom}
 
 module _ (v f : ℕ) (w : List ℕ) (p q : List Float) (limit : Limit) (bound : Float) (x : ℕ) where
   -- whether x with y is eligible
@@ -28,5 +29,5 @@ pub record Ready (v f : ℕ) (w : List ℕ) (p q : List Float) (limit : Limit) (
   pub quadrics-long : 10 * v ≤ length q
   pub point : x < v
   pub few : count ≤ v
-  pub points : (i : ℕ) → i < count → getD w (15 * f + 4 * v + i) 0 < v
+  pub points : (i : ℕ) → i < count → getD w (aroundFrom v f + i) 0 < v
   pub enough : n + length (waiting v f w p q limit bound x count) ≤ 3 * f

@@ -15,6 +15,7 @@ use Rattle.lists.specs.Frames.{But, overlaid}
 use Rattle.memory.specs.Points.{partsOf}
 use Rattle.output.specs.declared.Counts.{Counts}
 use Rattle.output.specs.declared.writing.NewNumber.{NewNumber}
+use Rattle.memory.specs.Layout.{marksFrom, stampsFrom}
 
 -- three elements as the three number n of a list, and a point's parts so
 abbrev pub threePut : {A : Type 0} → List A → ℕ → A → A → A → List A
@@ -41,12 +42,12 @@ pub record Known (v f : ℕ) (p : List Float) (w : List ℕ) (points : List Floa
 -- x has its number: whatever list was that of the points met, it is now that list with x noted
 pub record Numbered (v f : ℕ) (p : List Float) (x : ℕ) (w : List ℕ) (points : List Float) (met : ℕ)
     (w' : List ℕ) (points' : List Float) (r : NewNumber) : Type 0 where
-  pub but : But (7 * f + 2 * v) (7 * f + 3 * v) w w'
+  pub but : But (marksFrom v f) (stampsFrom v f) w w'
   pub met-then : (old : List Float) (seen : List ℕ) → Met v f p old seen w points met → Met v f p old (noted seen x) w' points' (r .met)
   pub number : (old : List Float) (seen : List ℕ) → Met v f p old seen w points met → r .number ≡ placeIn (noted seen x) x
 
 -- the faces of a list have been written: their points have been met, and the faces are out by the new numbers, over what stood there
-pub record Listed (v f : ℕ) (p old : List Float) (before : List ℕ) (fs : List Face)
+pub record FacesOut (v f : ℕ) (p old : List Float) (before : List ℕ) (fs : List Face)
     (w : List ℕ) (points : List Float) (faces : List ℕ) (r : Counts) : Type 0 where
   pub met : Met v f p old (used [] fs) w points (r .points)
   pub faces-out : faces ≡ overlaid (numbersOf (renumbered fs)) before
@@ -55,7 +56,7 @@ pub record Listed (v f : ℕ) (p old : List Float) (before : List ℕ) (fs : Lis
 -- one face more is written: whatever faces were written before, they are now those with this face after them
 pub record FaceWritten (v f : ℕ) (p : List Float) (face : Face) (w : List ℕ) (points : List Float) (faces : List ℕ) (counts : Counts)
     (w' : List ℕ) (points' : List Float) (faces' : List ℕ) (r : Counts) : Type 0 where
-  pub but : But (7 * f + 2 * v) (7 * f + 3 * v) w w'
+  pub but : But (marksFrom v f) (stampsFrom v f) w w'
   pub same-faces : length faces' ≡ length faces
   pub listed : (old : List Float) (before : List ℕ) (fs : List Face) → 3 * length fs + 3 ≤ length before →
-      Listed v f p old before fs w points faces counts → Listed v f p old before (fs ++ (face ∷ [])) w' points' faces' r
+      FacesOut v f p old before fs w points faces counts → FacesOut v f p old before (fs ++ (face ∷ [])) w' points' faces' r

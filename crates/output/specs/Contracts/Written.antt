@@ -1,5 +1,5 @@
 -- What writing the output leaves: the outputs changed only in the part used, and no mark but where the new numbers were kept.
-use Prim.Native.Nat.{ℕ, _+_, _*_}
+use Prim.Native.Nat.{ℕ}
 use mathlib.Core.Path.{_≡_}
 use mathlib.Core.List.{List, []}
 use lib.ListN.{length}
@@ -9,10 +9,11 @@ use Rattle.memory.specs.Memory.{liveFaces}
 use Rattle.lists.specs.Frames.{But, overlaid}
 use Rattle.memory.specs.Points.{partsOf}
 use Rattle.output.specs.declared.Counts.{Counts}
+use Rattle.memory.specs.Layout.{marksFrom, stampsFrom}
 
 -- live faces in face order, points numbered by first use
 pub record Written (v f : ℕ) (w : List ℕ) (p : List Float) (points : List Float) (faces : List ℕ) (w' : List ℕ) (points' : List Float) (faces' : List ℕ) (r : Counts) : Type 0 where
-  pub but : But (7 * f + 2 * v) (7 * f + 3 * v) w w'
+  pub but : But (marksFrom v f) (stampsFrom v f) w w'
   pub points-out : points' ≡ overlaid (partsOf p (used [] (liveFaces f w))) points
   pub faces-out : faces' ≡ overlaid (numbersOf (renumbered (liveFaces f w))) faces
   pub points-counted : r .points ≡ length (used [] (liveFaces f w))

@@ -34,15 +34,15 @@ is-allowed-requires c κs =
     )
 
 -- what the test answers, in the words of the definition
-allowed-told : (c : tie.After-is-allowed) → c .is-allowed .result ≡ allowed (rulesOf (entry (c .before) .args .limit) (entry (c .before) .args .bound))
+allowed-told : (c : tie.After-is-allowed) → c .is-allowed .result ≡ allowed (rulesOf (entry (c .before) .args .bounds .limit) (entry (c .before) .args .bounds .size))
     (meshOf (entry (c .before) .args .v) (entry (c .before) .args .f) (entry (c .before) .args .w .now) (entry (c .before) .args .p .now) (entry (c .before) .args .q .now))
-    (pairOf (entry (c .before) .args .least .keep) (entry (c .before) .args .least .remove))
+    (pairOf (entry (c .before) .args .least .fold .keep) (entry (c .before) .args .least .fold .remove))
 allowed-told c =
     let s = entry (c .before) in
     let h = s .pre .0 in
     let found = s .pre .1 .0 in
     let points = found-points h found in
-    c .is-allowed .ensures .0 ∙ allowed-is (s .args .limit) (s .args .bound) (s .args .v) (s .args .f) (s .args .w .now) (s .args .p .now) (s .args .q .now) (points .0) (points .1) (found .place) (h .tidy .faces-proper)
+    c .is-allowed .ensures .0 ∙ allowed-is (s .args .bounds .limit) (s .args .bounds .size) (s .args .v) (s .args .f) (s .args .w .now) (s .args .p .now) (s .args .q .now) (points .0) (points .1) (found .place) (h .tidy .faces-proper)
 
 fold-pair-requires : tie.Need-fold-pair-requires
 fold-pair-requires c κs =
@@ -63,7 +63,7 @@ returns : tie.Need-returns
 returns c =
     let at = c .before .before .before .before .before .before .before .before .before .before .before .before .before in
     let s = entry (at .before) in
-    tried-folded _ _ _ _ _ _ (s .args .least) (s .args .limit) (s .args .bound) (at .is-allowed .result) (c .before .before .before .before .before .before .before .before .before .before .if1 .taken)
+    tried-folded _ _ _ _ _ _ (s .args .least) (s .args .bounds .limit) (s .args .bounds .size) (at .is-allowed .result) (c .before .before .before .before .before .before .before .before .before .before .if1 .taken)
     (allowed-told at)
     (rw (at .is-allowed .ensures .1) at (c .before .before .before .before .before .before .fold-pair .ensures))
 
@@ -83,9 +83,9 @@ returns-2 : tie.Need-returns-2
 returns-2 c =
     let at = c .before .before .before .before .before .before .before in
     let s = entry (at .before) in
-    tried-closed _ _ _ _ _ _ (s .args .least) (s .args .limit) (s .args .bound) (at .is-allowed .result) (c .before .before .before .before .if1 .left)
+    tried-closed _ _ _ _ _ _ (s .args .least) (s .args .bounds .limit) (s .args .bounds .size) (at .is-allowed .result) (c .before .before .before .before .if1 .left)
     (allowed-told at)
-    (closed-done (s .pre .0) (s .pre .1 .0) (rw (at .is-allowed .ensures .1) at (c .before .before .close-pair .ensures)) (s .args .limit))
+    (closed-done (s .pre .0) (s .pre .1 .0) (rw (at .is-allowed .ensures .1) at (c .before .before .close-pair .ensures)) (s .args .bounds .limit))
 
 pub fold-or-close-spec : {M : Type 1} → statement M
 fold-or-close-spec =

@@ -34,7 +34,7 @@ drop-pairs-requires : tie.Need-drop-pairs-requires
 drop-pairs-requires c κs =
     let at = c .before .before .before .before .before .before .before in
     let s = entry (at .before) in
-    (open-few (s .pre .0), at .fold-mesh .ensures (s .args .limit) (s .args .bound) (s .pre .1 .0 .place) .tidy .room)
+    (open-few (s .pre .0), at .fold-mesh .ensures (s .args .bounds .limit) (s .args .bounds .size) (s .pre .1 .0 .place) .tidy .room)
 
 open-neighbours-requires : tie.Need-open-neighbours-requires
 open-neighbours-requires c κs =
@@ -42,7 +42,7 @@ open-neighbours-requires c κs =
     let s = entry (at .before) in
     let h = s .pre .0 in
     let found = s .pre .1 .0 in
-    let fold = at .fold-mesh .ensures (s .args .limit) (s .args .bound) (found .place) in
+    let fold = at .fold-mesh .ensures (s .args .bounds .limit) (s .args .bounds .size) (found .place) in
     let drop = c .before .before .before .before .before .drop-pairs .ensures in (
       dropped-tidy h fold drop (found-open h found),
       (
@@ -58,7 +58,7 @@ sub-left : tie.Need-sub-left
 sub-left c =
     let at = c .before .before .before .before .before .before .before .before .before .before .before .before .before .before .before .before in
     let s = entry (at .before) in
-    omega (arith, folded-live (s .pre .0) (at .fold-mesh .ensures (s .args .limit) (s .args .bound) (s .pre .1 .0 .place)))
+    omega (arith, folded-live (s .pre .0) (at .fold-mesh .ensures (s .args .bounds .limit) (s .args .bounds .size) (s .pre .1 .0 .place)))
 
 same-length : tie.Need-same-length
 same-length c = search needs
@@ -75,7 +75,7 @@ returns c =
     let s = entry (at .before) in
     let h = s .pre .0 in
     let found = s .pre .1 .0 in
-    folded-done h (at .fold-mesh .ensures (s .args .limit) (s .args .bound) (found .place)) (c .before .before .before .before .before .before .before .before .drop-pairs .ensures) (found-open h found)
+    folded-done h (at .fold-mesh .ensures (s .args .bounds .limit) (s .args .bounds .size) (found .place)) (c .before .before .before .before .before .before .before .before .drop-pairs .ensures) (found-open h found)
     (c .before .before .open-neighbours .ensures)
 
 pub fold-pair-spec : {M : Type 1} → statement M

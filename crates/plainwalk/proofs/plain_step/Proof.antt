@@ -10,12 +10,12 @@ use Rattle.plainwalk.proofs.plain_step.Tie as tie
 returns : tie.Need-returns
 returns c =
     let s = c .before .before .before .before in
-    at-target (s .pre) (s .args .target) (s .args .limit) (s .args .bound) (omega (arith, c .if1 .taken))
+    at-target (s .pre) (s .args .target) (s .args .bounds .limit) (s .args .bounds .size) (omega (arith, c .if1 .taken))
 
 returns-2 : tie.Need-returns-2
 returns-2 c =
     let s = c .before .before .before .before .before in
-    none-open (s .pre) (s .args .target) (s .args .limit) (s .args .bound) (c .if2 .taken)
+    none-open (s .pre) (s .args .target) (s .args .bounds .limit) (s .args .bounds .size) (c .if2 .taken)
 
 least-pair-requires : tie.Need-least-pair-requires
 least-pair-requires c κs =
@@ -24,8 +24,11 @@ least-pair-requires c κs =
 
 try-pair-requires : tie.Need-try-pair-requires
 try-pair-requires c κs =
-    let least = c .before .before .before .least-pair .ensures (c .before .before .before .before .before .before .before .before .before .before .before .before .args .limit) in
-    (c .before .before .before .before .before .before .before .before .before .before .before .before .pre, record { within = least .within; same-pair = least .same-pair; place = least .place })
+    let found = c .before .before .before in
+    let least = found .least-pair .ensures in (
+      found .before .before .before .before .before .before .before .before .before .pre,
+      record { within = least .within; same-pair = least .same-pair; place = least .place },
+    )
 
 same-length : tie.Need-same-length
 same-length c = search needs
@@ -38,9 +41,12 @@ same-length-3 c = search needs
 
 returns-3 : tie.Need-returns-3
 returns-3 c =
-    let s = c .before .before .before .before .before .before .before .before .before .before .before .before .before .before .before .before .before .before .before in
-    least-step (s .pre) (s .args .target) (s .args .limit) (s .args .bound) (omega (arith, c .before .before .before .before .before .before .before .before .before .before .before .before .before .before .before .if1 .left))
-    (c .before .before .before .before .before .before .before .before .before .before .least-pair .result) (c .before .before .before .before .before .before .before .before .before .before .least-pair .ensures (s .args .limit)) (c .before .before .before .before .before .before .try-pair .ensures)
+    let tried = c .before .before .before .before .before .before in
+    let found = tried .before .before .before .before in
+    let above = found .before .before .before .before .before in
+    let start = above .before .before .before .before in
+    least-step (start .pre) (start .args .target) (start .args .bounds .limit) (start .args .bounds .size) (omega (arith, above .if1 .left)) (found .least-pair .result)
+    (found .least-pair .ensures) (tried .try-pair .ensures)
 
 pub plain-step-spec : {M : Type 1} → statement M
 plain-step-spec =

@@ -10,9 +10,10 @@ open-start-requires c κs = let s = c .before .before .before .before .before .b
 
 walk-on-requires : tie.Need-walk-on-requires
 walk-on-requires c κs =
-    let s = c .before .before .before .before .before .before .before .before .before .before .before .before in
-    start-holds (s .args .p .now) (s .args .q .now) (s .args .limit) (s .args .bound) (s .pre .0) (s .pre .1 .0) (s .pre .1 .1 .0) (s .pre .1 .1 .1)
-    (c .before .before .before .before .before .open-start .ensures)
+    let opened = c .before .before .before .before .before in
+    let s = opened .before .before .before .before .before .before .before in
+    start-holds (s .args .p .now) (s .args .q .now) (s .args .bounds .limit) (s .args .bounds .size) (s .pre .0) (s .pre .1 .0) (s .pre .1 .1 .0) (s .pre .1 .1 .1)
+    (opened .open-start .ensures)
 
 same-length : tie.Need-same-length
 same-length c = search needs
@@ -25,9 +26,11 @@ same-length-3 c = search needs
 
 returns : tie.Need-returns
 returns c =
-    let s = c .before .before .before .before .before .before .before .before .before .before .before .before .before .before .before .before .before .before .before in
-    walk-done (s .args .p .now) (s .args .q .now) (s .args .limit) (s .args .bound) (s .pre .0) (s .pre .1 .0) (s .pre .1 .1 .0) (s .pre .1 .1 .1)
-    (c .before .before .before .before .before .before .before .before .before .before .before .before .open-start .ensures) (c .before .before .before .before .before .before .walk-on .ensures)
+    let walked = c .before .before .before .before .before .before in
+    let opened = walked .before .before .before .before .before .before in
+    let s = opened .before .before .before .before .before .before .before in
+    walk-done (s .args .p .now) (s .args .q .now) (s .args .bounds .limit) (s .args .bounds .size) (s .pre .0) (s .pre .1 .0) (s .pre .1 .1 .0) (s .pre .1 .1 .1)
+    (opened .open-start .ensures) (walked .walk-on .ensures)
 
 pub plain-walk-spec : {M : Type 1} → statement M
 plain-walk-spec = tie.close (tie.spec open-start-requires walk-on-requires same-length same-length-2 same-length-3 returns)

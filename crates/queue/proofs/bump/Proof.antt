@@ -5,19 +5,9 @@ use Rattle.queue.proofs.bump.Statement.{statement}
 use Rattle.queue.proofs.bump.Tie as tie
 
 returns : tie.Need-returns
-returns c = rw (c .stamp-at .ensures)
+returns c =
+    let written = c .before .before in
+    rw (written .set-stamp .ensures, written .before .before .stamp-at .ensures)
 
 pub bump-spec : {M : Type 1} → statement M
-bump-spec =
-    tie.close
-    (tie.spec
-    (λ c κs. search needs)
-    (λ c. search needs)
-    (λ c. search needs)
-    (λ c. search needs)
-    (λ c. search needs)
-    (λ c. search needs)
-    (λ c. search needs)
-    (λ c. search needs)
-    (λ c. search needs)
-    returns)
+bump-spec = tie.close (tie.spec (λ c κs. search needs) (λ c. search needs) (λ c κs. search needs) (λ c. search needs) returns)

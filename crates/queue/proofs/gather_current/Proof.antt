@@ -30,8 +30,8 @@ is-current-requires c κs =
     let entered = turn-entered (pre .0) (c .before .before .before .loop-test .taken) (pre .1 .1) (turn .loop .inv .1) (c .before .slot-at .ensures) in
     (entered .slot, (room-but (turn .loop .inv .1 .sifted .but) (pre .1 .0), (entered .keep, entered .remove)))
 
-swap-requires : tie.Need-swap-requires Inv-loop μ-loop
-swap-requires c κs =
+swap-slots-requires : tie.Need-swap-slots-requires Inv-loop μ-loop
+swap-slots-requires c κs =
     let turn = c .before .before .before .before .before .before .before in
     let few = turn .loop .inv .1 .few in
     (search needs, (search needs, room-but (turn .loop .inv .1 .sifted .but) (turn .before .before .pre .1 .0)))
@@ -66,7 +66,7 @@ gather-current-spec =
     loop-holds
     slot-at-requires
     is-current-requires
-    swap-requires
+    swap-slots-requires
     (λ c. search needs)
     (λ c. search needs)
     (λ c. search needs)

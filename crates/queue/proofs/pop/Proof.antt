@@ -9,7 +9,7 @@ sift-down-requires : tie.Need-sift-down-requires
 sift-down-requires c κs =
     let swapped = c .before .before .before in
     let pre = swapped .before .before .before .before .before .before .pre in
-    (rest-slotted (pre .1) (pre .0) (swapped .swap .ensures), rest-heap (pre .1) (pre .0) (swapped .swap .ensures))
+    (rest-slotted (pre .1) (pre .0) (swapped .swap-slots .ensures), rest-heap (pre .1) (pre .0) (swapped .swap-slots .ensures))
 
 returns : tie.Need-returns
 returns c =
@@ -17,7 +17,7 @@ returns c =
     let swapped = sifted .before .before .before .before in
     let read = swapped .before .before in
     let pre = read .before .before .before .before .pre in
-    popping (pre .1) (pre .0) (swapped .swap .ensures) (read .slot-at .ensures) (sifted .sift-down .ensures .0) (sifted .sift-down .ensures .1)
+    popping (pre .1) (pre .0) (swapped .swap-slots .ensures) (read .slot-at .ensures) (sifted .sift-down .ensures .0) (sifted .sift-down .ensures .1)
 
 pub pop-spec : {M : Type 1} → statement M
 pop-spec =

@@ -1,30 +1,40 @@
 -- `queue::put_entry` meets its contract: the stamps that were read are stored, and the pair, the place and the cost.
 -- Assumes nothing.
-use Prim.Native.Nat.{_+_, _*_}
 use native.Mathlib.Omega.{arith}
-use mathlib.Core.Path.{ap, _∙_}
 use borrow.Author.Needs.{needs}
-use lib.ListN.{length}
-use lib.Seq.{lt-length-set}
-use Rattle.openpairs.proofs.OpenLaws.{pushed-but}
+use Rattle.queue.proofs.PushLawsEntry.{put-words}
 use Rattle.queue.proofs.put_entry.Statement.{statement}
 use Rattle.queue.proofs.put_entry.Tie as tie
 
--- the memory is as long as before
-slice-write-w-2 : tie.Need-slice-write-w-2
-slice-write-w-2 c =
-    let start = c .before .before .before .before .before .before .before .before .before .before .before in
-    let args = start .args in
-    let room = start .pre .1 .0 in
-    let pair = c .before .before .push-pair in
-    let same-length = ap length (pair .ensures) ∙ pushed-but room (args .s) (args .keep) (args .remove) (start .pre .0) .same-length in
-    lt-length-set (pair .last .0) (18 * args .f + 5 * args .v + args .s) _ (omega (arith, start .pre .0, room .long, same-length))
+-- ---- the place after each step, from the place after the next
+
+abbrev stamped : tie.After-set-cost-arg → tie.After-set-stamps
+stamped c = c .before .before .before .before .before .before .before .before
+
+abbrev paired : tie.After-set-stamps → tie.After-set-pair
+paired c = c .before .before .before .before
+
+abbrev read : tie.After-set-pair → tie.After-stamp-at2
+read c = c .before .before
+
+abbrev entry : tie.After-stamp-at2 → tie.Start
+entry c = c .before .before .before .before .before .before .before .before .before
+
+-- ---- the needs
+
+set-cost-requires : tie.Need-set-cost-requires
+set-cost-requires c κs =
+    let pre = entry (read (paired (stamped c))) .pre in
+    omega (arith, pre .0, pre .1 .1 .1 .0)
 
 returns : tie.Need-returns
 returns c =
-    let paired = c .before .before .before .before .before .before in
+    let put = stamped (c .before .before .before) in
+    let stamps = read (paired put) in
+    let given = entry stamps .args in
     record {
-      words = rw (paired .push-pair .ensures, paired .before .before .before .before .stamp-at .ensures, paired .before .before .stamp-at2 .ensures);
+      words = put-words (given .v) (given .f) (given .w .now) (given .s) (given .fold .keep) (given .fold .remove) (put .set-stamps .ensures)
+          (paired put .set-pair .ensures) (stamps .before .before .before .stamp-at .ensures) (stamps .stamp-at2 .ensures);
       places = search needs;
       costs = search needs;
     }
@@ -33,27 +43,15 @@ pub put-entry-spec : {M : Type 1} → statement M
 put-entry-spec =
     tie.close
     (tie.spec
+    (λ c. search needs)
+    (λ c κs. search needs)
+    (λ c. search needs)
     (λ c κs. search needs)
     (λ c κs. search needs)
     (λ c κs. search needs)
     (λ c. search needs)
-    (λ c. search needs)
-    (λ c. search needs)
-    (λ c. search needs)
-    (λ c. search needs)
-    (λ c. search needs)
-    (λ c. search needs)
-    (λ c. search needs)
-    (λ c. search needs)
-    (λ c. search needs)
-    (λ c. search needs)
-    slice-write-w-2
-    (λ c. search needs)
     (λ c κs. search needs)
-    (λ c. search needs)
-    (λ c. search needs)
-    (λ c. search needs)
-    (λ c. search needs)
+    set-cost-requires
     (λ c. search needs)
     (λ c. search needs)
     (λ c. search needs)

@@ -16,6 +16,7 @@ use Rattle.queue.specs.State.{isCurrent, isQueued, openIn}
 use Rattle.queue.specs.Contracts.Queued.{Queue}
 use Rattle.queue.specs.declared.Taken.{Taken}
 use Rattle.queue.specs.declared.Taken.the-variants.{Entry, Empty}
+use Rattle.memory.specs.Layout.{costsTo, foldsFrom, keepStampsFrom, keepsFrom, nearFrom, orderFrom, placesTo, stampsFrom}
 
 -- the slots that are queued were queued before
 abbrev pub Fewer : (v f : ℕ) (w : List ℕ) (n : ℕ) (w' : List ℕ) (n' : ℕ) → Type 0
@@ -23,13 +24,13 @@ Fewer v f w n w' n' = (s : ℕ) → isQueued v f w' n' s ≡ true → isQueued v
 
 -- the queue at the start: every stamp is 0, every slot is free
 pub record Emptied (v f : ℕ) (w : List ℕ) (q : List Float) (w' : List ℕ) : Type 0 where
-  pub but : But (7 * f + 3 * v) (18 * f + 5 * v) w w'
+  pub but : But (stampsFrom v f) (keepStampsFrom v f) w w'
   pub stamps : (x : ℕ) → x < v → stamp v f w' x ≡ 0
   pub queue : Queue v f w' q 0
 
 -- The entry on top is taken off: the slot s. No entry comes before it.
 pub record Popped (v f : ℕ) (w : List ℕ) (q : List Float) (n : ℕ) (w' : List ℕ) (s : ℕ) : Type 0 where
-  pub but : But (15 * f + 5 * v) (18 * f + 5 * v) w w'
+  pub but : But (orderFrom v f) (keepStampsFrom v f) w w'
   pub queue : Queue v f w' q (n - 1)
   pub slot : s < 3 * f
   pub sums : (g : ℕ → ℕ) → sum g (queued v f w' (n - 1)) + g s ≡ sum g (queued v f w n)
@@ -37,7 +38,7 @@ pub record Popped (v f : ℕ) (w : List ℕ) (q : List Float) (n : ℕ) (w' : Li
 
 -- The first current entry is taken off, in slot s, and left entries stay: no current entry comes before it.
 pub record TakenOff (v f : ℕ) (w : List ℕ) (q : List Float) (n : ℕ) (w' : List ℕ) (s left : ℕ) : Type 0 where
-  pub but : But (15 * f + 5 * v) (18 * f + 5 * v) w w'
+  pub but : But (orderFrom v f) (keepStampsFrom v f) w w'
   pub queue : Queue v f w' q left
   pub slot : s < 3 * f
   pub was-queued : isQueued v f w n s ≡ true
@@ -48,7 +49,7 @@ pub record TakenOff (v f : ℕ) (w : List ℕ) (q : List Float) (n : ℕ) (w' : 
 
 -- No entry was current, and none is left.
 pub record NoneLeft (v f : ℕ) (w : List ℕ) (q : List Float) (n : ℕ) (w' : List ℕ) : Type 0 where
-  pub but : But (15 * f + 5 * v) (18 * f + 5 * v) w w'
+  pub but : But (orderFrom v f) (keepStampsFrom v f) w w'
   pub queue : Queue v f w' q 0
   pub none : openIn v f w n ≡ []
 
@@ -65,7 +66,7 @@ pub record CurrentFirst (v f : ℕ) (w : List ℕ) (n : ℕ) (w' : List ℕ) (n'
 
 -- old entries are thrown out, and the current ones stay
 pub record ThrownOut (v f : ℕ) (w : List ℕ) (q : List Float) (n : ℕ) (w' : List ℕ) (n' : ℕ) : Type 0 where
-  pub but : But (15 * f + 5 * v) (18 * f + 5 * v) w w'
+  pub but : But (orderFrom v f) (keepStampsFrom v f) w w'
   pub queue : Queue v f w' q n'
   pub fewer : Fewer v f w n w' n'
   pub same-open : SameBag (openIn v f w' n') (openIn v f w n)
@@ -73,13 +74,13 @@ pub record ThrownOut (v f : ℕ) (w : List ℕ) (q : List Float) (n : ℕ) (w' :
 
 -- Entries for a list of pairs are put in, and the open pairs are more by these: no cell but the queue's own and those of the lists around a point changes.
 pub record Enqueued (v f : ℕ) (w : List ℕ) (p q : List Float) (n : ℕ) (more : List Pair) (w' : List ℕ) (p' q' : List Float) (n' : ℕ) : Type 0 where
-  pub but : But (7 * f + 4 * v) (24 * f + 5 * v) w w'
-  pub points-but : FloatsBut (3 * v) (3 * v + 9 * f) p p'
-  pub quadrics-but : FloatsBut (10 * v) (10 * v + 3 * f) q q'
+  pub but : But (keepsFrom v f) (foldsFrom v f) w w'
+  pub points-but : FloatsBut (3 * v) (placesTo v f) p p'
+  pub quadrics-but : FloatsBut (10 * v) (costsTo v f) q q'
   pub queue : Queue v f w' q' n'
   pub sums : (g : Pair → ℕ) → sum g (openIn v f w' n') ≡ sum g (openIn v f w n) + sum g more
 
 -- one entry is put in, and the lists around a point stay
 pub record Pushed (v f : ℕ) (w : List ℕ) (p q : List Float) (n keep remove : ℕ) (w' : List ℕ) (p' q' : List Float) (n' : ℕ) : Type 0 where
   pub enqueued : Enqueued v f w p q n (pairOf keep remove ∷ []) w' p' q' n'
-  pub lists-same : (i : ℕ) → 13 * f + 4 * v ≤ i → i < 15 * f + 5 * v → getD w' i 0 ≡ getD w i 0
+  pub lists-same : (i : ℕ) → nearFrom v f ≤ i → i < orderFrom v f → getD w' i 0 ≡ getD w i 0

@@ -10,15 +10,16 @@ use Rattle.lists.specs.Lists.{sum, every}
 use Rattle.memory.specs.Memory.{Room}
 use Rattle.lists.specs.Frames.{But}
 use Rattle.memory.specs.Entries.{queued}
+use Rattle.memory.specs.Layout.{costsTo, orderFrom}
 
 -- the memory has its room, and the first n places of the order hold slots
 pub record Slotted (v f : ℕ) (w : List ℕ) (q : List Float) (n : ℕ) : Type 0 where
   pub room : Room v f w
-  pub costs-long : 10 * v + 3 * f ≤ length q
+  pub costs-long : costsTo v f ≤ length q
   pub few : n ≤ 3 * f
   pub slots-below : every (λ s. ltb s (3 * f)) (queued v f w n) ≡ true
 
 -- the first n slots are in another order, and nothing else has changed
 pub record Sifted (v f n : ℕ) (w w' : List ℕ) : Type 0 where
-  pub but : But (15 * f + 5 * v) (15 * f + 5 * v + n) w w'
+  pub but : But (orderFrom v f) (orderFrom v f + n) w w'
   pub sums : (g : ℕ → ℕ) → sum g (queued v f w' n) ≡ sum g (queued v f w n)

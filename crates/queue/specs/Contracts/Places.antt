@@ -11,5 +11,5 @@ pub record Stands (v f : ℕ) (w : List ℕ) (i : ℕ) : Type 0 where
   pub slot : slotAt v f w i < 3 * f
 
 -- of two places the one of lower rank, and the first of them where the second is not below n
-unfoldable pub firstOf : (ℕ → ℕ) → ℕ → ℕ → ℕ → ℕ
-firstOf r n i j = cond (ltb j n) (cond (ltb (r j) (r i)) j i) i
+unfoldable pub lesserOf : (ℕ → ℕ) → ℕ → ℕ → ℕ → ℕ
+lesserOf r n i j = cond (ltb j n) (cond (ltb (r j) (r i)) j i) i

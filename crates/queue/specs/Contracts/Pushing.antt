@@ -12,10 +12,11 @@ use Rattle.memory.specs.Entries.{stamp}
 use Rattle.queue.specs.State.{openIn}
 use Rattle.queue.specs.Contracts.Queued.{Queue}
 use Rattle.queue.specs.Contracts.Changes.{Fewer}
+use Rattle.memory.specs.Layout.{keepStampsFrom, keepsFrom, orderFrom, removeStampsFrom, removesFrom}
 
 -- there is room for an entry: old ones may be gone, and the current ones stay
 pub record RoomMade (v f : ℕ) (w : List ℕ) (q : List Float) (n : ℕ) (w' : List ℕ) (n' : ℕ) : Type 0 where
-  pub but : But (15 * f + 5 * v) (18 * f + 5 * v) w w'
+  pub but : But (orderFrom v f) (keepStampsFrom v f) w w'
   pub queue : Queue v f w' q n'
   pub fewer : Fewer v f w n w' n'
   pub same-open : SameBag (openIn v f w' n') (openIn v f w n)
@@ -23,10 +24,10 @@ pub record RoomMade (v f : ℕ) (w : List ℕ) (q : List Float) (n : ℕ) (w' : 
 
 -- the memory with a pair in slot s, and with two stamps
 abbrev pub withPair : ℕ → ℕ → List ℕ → ℕ → ℕ → ℕ → List ℕ
-withPair v f w s keep remove = set (set w (7 * f + 4 * v + s) keep) (10 * f + 4 * v + s) remove
+withPair v f w s keep remove = set (set w (keepsFrom v f + s) keep) (removesFrom v f + s) remove
 
 abbrev pub withStamps : ℕ → ℕ → List ℕ → ℕ → ℕ → ℕ → List ℕ
-withStamps v f w s a b = set (set w (18 * f + 5 * v + s) a) (21 * f + 5 * v + s) b
+withStamps v f w s a b = set (set w (keepStampsFrom v f + s) a) (removeStampsFrom v f + s) b
 
 -- an entry is written into slot s, with the present stamps of its points
 pub record EntryPut (v f : ℕ) (w : List ℕ) (p q : List Float) (s keep remove : ℕ) (cost : Float) (place : Point) (w' : List ℕ) (p' q' : List Float) :

@@ -1,5 +1,5 @@
 -- What is true of the queue between its functions.
-use Prim.Native.Nat.{ℕ, _+_, _*_, _≤_, _<_}
+use Prim.Native.Nat.{ℕ, _*_, _≤_, _<_}
 use mathlib.Core.Path.{_≡_}
 use mathlib.Core.List.{List}
 use mathlib.Core.Bool.{true}
@@ -12,11 +12,12 @@ use Rattle.memory.specs.Points.{vertexAt}
 use Rattle.memory.specs.Entries.{pairAt, queued, costIn, stamp, keepStamp, removeStamp, entryPlace}
 use Rattle.queue.specs.Contracts.Ranks.{HeapFrom}
 use Rattle.queue.specs.State.{isCurrent, isQueued}
+use Rattle.memory.specs.Layout.{costsTo}
 
 -- The queue holds n entries, in a heap. The order lists every slot once, so the slots past the first n are the free ones.
 pub record Queue (v f : ℕ) (w : List ℕ) (q : List Float) (n : ℕ) : Type 0 where
   pub room : Room v f w
-  pub costs-long : 10 * v + 3 * f ≤ length q
+  pub costs-long : costsTo v f ≤ length q
   pub few : n ≤ 3 * f
   pub each-once : (g : ℕ → ℕ) → sum g (queued v f w (3 * f)) ≡ sum g (below (3 * f))
   pub ordered : HeapFrom 0 v f w q n

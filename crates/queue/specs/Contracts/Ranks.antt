@@ -4,26 +4,13 @@
 --   u32     7F + 4V     3F      keep, and from 10F + 4V remove: the pair of each slot
 --   u32     15F + 5V    3F      order: the slots, the n that are queued first
 --   f64     10V         3F      cost: of each slot
-use Prim.Native.Nat.{ℕ, _+_, _*_, _-_, _/_, _≤_, _<_}
+use Prim.Native.Nat.{ℕ, _-_, _/_, _≤_, _<_}
 use mathlib.Core.List.{List}
-use lib.ListN.{getD}
-use lib.Ieee.{Float, nan}
+use lib.Ieee.{Float}
 use Rattle.bits.specs.Order.{floatKey}
-use Rattle.lists.specs.Lists.{stretch}
 use Rattle.openpairs.specs.declared.pairs.Ranked.{Ranked}
-use Rattle.memory.specs.Entries.{pairAt}
+use Rattle.memory.specs.Entries.{pairAt, slotAt, costIn}
 use Rattle.openpairs.specs.Contracts.Ranks.{rank}
-
--- the slot in a place of the order, and the first n
-abbrev pub slotAt : ℕ → ℕ → List ℕ → ℕ → ℕ
-slotAt v f w i = getD w (15 * f + 5 * v + i) 0
-
-abbrev pub queued : ℕ → ℕ → List ℕ → ℕ → List ℕ
-queued v f w n = stretch w (15 * f + 5 * v) n
-
--- the stored cost of the entry in a slot
-abbrev pub costIn : ℕ → List Float → ℕ → Float
-costIn v q s = getD q (10 * v + s) nan
 
 -- what the entry in a slot is compared by: the key of its stored cost, then keep, then remove
 abbrev pub rankedIn : ℕ → ℕ → List ℕ → List Float → ℕ → Ranked

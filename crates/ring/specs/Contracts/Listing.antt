@@ -1,5 +1,5 @@
 -- The points around a point, listed in the lent u32 memory: at most V of them, in the cells from 15F + 4V on.
-use Prim.Native.Nat.{ℕ, _+_, _*_}
+use Prim.Native.Nat.{ℕ}
 use mathlib.Core.Path.{_≡_}
 use mathlib.Core.List.{List}
 use mathlib.Core.Bool.{Bool, true, false}
@@ -9,10 +9,11 @@ use Rattle.walk.specs.Faces.{neighbour}
 use Rattle.walk.specs.Pairs.{pairOf, rises}
 use Rattle.memory.specs.Memory.{liveFaces}
 use Rattle.lists.specs.Frames.{But}
+use Rattle.memory.specs.Layout.{aroundFrom, nearFrom, orderFrom}
 
 -- the n points that are listed
 abbrev pub aroundIn : ℕ → ℕ → List ℕ → ℕ → List ℕ
-aroundIn v f w n = stretch w (15 * f + 4 * v) n
+aroundIn v f w n = stretch w (aroundFrom v f) n
 
 -- which points are listed around x: at the start those to which a face edge rises from x, after a fold its neighbours
 abbrev pub isAround : Bool → List Face → ℕ → ℕ → Bool
@@ -20,6 +21,6 @@ isAround true faces x y = rises faces (pairOf x y)
 isAround false faces x y = neighbour faces x y
 
 -- The points around x are listed, each once, in any order. Only the cells of the lists of faces and points change.
-pub record Listed (v f : ℕ) (w : List ℕ) (rising : Bool) (x : ℕ) (w' : List ℕ) (n : ℕ) : Type 0 where
-  pub but : But (13 * f + 4 * v) (15 * f + 5 * v) w w'
+pub record AroundListed (v f : ℕ) (w : List ℕ) (rising : Bool) (x : ℕ) (w' : List ℕ) (n : ℕ) : Type 0 where
+  pub but : But (nearFrom v f) (orderFrom v f) w w'
   pub sums : (g : ℕ → ℕ) → sum g (aroundIn v f w' n) ≡ sum g (those (isAround rising (liveFaces f w) x) (below v))

@@ -1,5 +1,5 @@
 -- A list of faces, and what is done to the marks of its points.
-use Prim.Native.Nat.{ℕ, _+_, _*_, _≤_, _<_}
+use Prim.Native.Nat.{ℕ, _+_, _≤_, _<_}
 use mathlib.Core.Path.{_≡_}
 use mathlib.Core.List.{List}
 use mathlib.Core.Bool.{Bool, true, not, _&&_, _||_}
@@ -11,22 +11,23 @@ use Rattle.walk.specs.Faces.{holds, proper, faceAt}
 use Rattle.memory.specs.Memory.{mark}
 use Rattle.lists.specs.Frames.{But}
 use Rattle.mesh.specs.Contracts.Around.{Gathered}
+use Rattle.memory.specs.Layout.{marksFrom, nearFrom, stampsFrom}
 
 -- n slots of proper faces from base on, above the mesh's own cells and within the memory
-pub record Listed (v f : ℕ) (w : List ℕ) (base n : ℕ) : Type 0 where
-  pub above : 13 * f + 4 * v ≤ base
+pub record FacesListed (v f : ℕ) (w : List ℕ) (base n : ℕ) : Type 0 where
+  pub above : nearFrom v f ≤ base
   pub within : base + n ≤ length w
   pub all-proper : every (λ k. ltb k f && proper v (faceAt w k)) (stretch w base n) ≡ true
 
 -- the faces around x, gathered from base on, above the mesh's own cells and within the memory
 pub record Around (v f : ℕ) (w : List ℕ) (x base n : ℕ) : Type 0 where
-  pub above : 13 * f + 4 * v ≤ base
+  pub above : nearFrom v f ≤ base
   pub within : base + f ≤ length w
   pub gathered : Gathered v f w x base n
 
 -- only marks change, and each point's mark by a rule
 pub record Remarked (v f : ℕ) (rule : ℕ → ℕ → ℕ) (w w' : List ℕ) : Type 0 where
-  pub but : But (7 * f + 2 * v) (7 * f + 3 * v) w w'
+  pub but : But (marksFrom v f) (stampsFrom v f) w w'
   pub marks : (u : ℕ) → u < v → mark v f w' u ≡ rule u (mark v f w u)
 
 -- no mark has come to the number of faces, so that one more fits

@@ -1,5 +1,5 @@
 -- The faces around a point ask for some of its points, and these are marked.
-use Prim.Native.Nat.{ℕ, _+_, _*_, _<_}
+use Prim.Native.Nat.{ℕ, _<_}
 use mathlib.Core.Path.{_≡_}
 use mathlib.Core.List.{List}
 use mathlib.Core.Bool.{Bool, true, false, not, _&&_, cond}
@@ -7,8 +7,9 @@ use lib.Dec.{ltb, eqb}
 use Rattle.walk.specs.declared.Face.{Face}
 use Rattle.lists.specs.Lists.{some, stretch}
 use Rattle.walk.specs.Faces.{runs, proper, faceAt}
-use Rattle.memory.specs.Memory.{mark, nearAt}
-use Rattle.lists.specs.Frames.{But}
+use Rattle.memory.specs.Memory.{nearAt}
+use Rattle.memory.specs.Layout.{nearFrom}
+use Rattle.ring.specs.Contracts.Marking.{Remarked}
 
 -- each of the first n names a face of three distinct points
 abbrev pub Near : (v f : ℕ) (w : List ℕ) (n : ℕ) → Type 0
@@ -16,7 +17,7 @@ Near v f w n = (i : ℕ) → i < n → (nearAt v f w i < f) × (proper v (faceAt
 
 -- a test passes at one of the first n
 abbrev pub found : ℕ → ℕ → List ℕ → ℕ → (Face → Bool) → Bool
-found v f w n test = some (λ k. test (faceAt w k)) (stretch w (13 * f + 4 * v) n)
+found v f w n test = some (λ k. test (faceAt w k)) (stretch w (nearFrom v f) n)
 
 -- ---- marks
 
@@ -26,6 +27,5 @@ wanted true x y face = ltb x y && runs x y face
 wanted false x y face = not (eqb x y)
 
 -- some points are marked, and nothing else is changed
-pub record Marks (v f : ℕ) (which : ℕ → Bool) (w w' : List ℕ) : Type 0 where
-  pub but : But (7 * f + 2 * v) (7 * f + 3 * v) w w'
-  pub marks : (u : ℕ) → u < v → mark v f w' u ≡ cond (which u) 1 (mark v f w u)
+abbrev pub Marks : (v f : ℕ) (which : ℕ → Bool) (w w' : List ℕ) → Type 0
+Marks v f which w w' = Remarked v f (λ u m. cond (which u) 1 m) w w'

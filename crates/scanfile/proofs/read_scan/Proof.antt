@@ -3,41 +3,60 @@
 use Prim.Native.Nat.{ℕ, _+_}
 use native.Mathlib.Omega.{arith}
 use mathlib.Core.Path.{_≡_, sym, ap, _∙_}
-use Rattle.scanfile.specs.Records.{recordFault, optionsFault}
-use Rattle.scanfile.specs.Scans.{thirdAt, endOf}
-use Rattle.scanfile.proofs.RecordLaws.{passed, options-size, points-most, faces-most}
-use Rattle.scanfile.proofs.ScanLaws.{first-refused, options-refused, second-refused, third-refused, spare-refused, all-good}
+use mathlib.Core.List.{List}
+use Rattle.records.specs.Records.{headLength}
+use Rattle.scanfile.specs.Layout.{secondAt, pointsAt, thirdAt, endOf}
+use Rattle.scanfile.specs.Faults.{recordFault, optionsFault}
+use Rattle.scanfile.proofs.FaultLaws.{GoodRecord, passed, options-size}
+use Rattle.scanfile.proofs.ScanLaws.{NoneRefused, first-refused, options-refused, second-refused, third-refused, spare-refused, all-good}
 use borrow.Author.Needs.{needs}
 use Rattle.scanfile.proofs.read_scan.Statement.{statement}
 use Rattle.scanfile.proofs.read_scan.Tie as tie
 
 -- ---- what the tests that did not hold say of the file
 
-first : (c : tie.Else1) → recordFault (c .before .before .before .args .bytes .now) 1 0 ≡ 0
+-- the file, from where its first record passed
+abbrev file : tie.Else1 → List ℕ
+file c = c .before .before .before .args .bytes .now
+
+-- where the first record passed, from where the second did
+abbrev firstPassed : tie.Else3 → tie.Else1
+firstPassed c = c .before .before .before .before
+
+-- where the second record passed, from where the third did
+abbrev secondPassed : tie.Else4 → tie.Else3
+secondPassed c = c .before .before .before
+
+first : (c : tie.Else1) → recordFault (file c) 1 0 ≡ 0
 first c = sym (c .before .record-fault .ensures) ∙ c .if1 .left
 
-options : (c : tie.Else2) → optionsFault (c .before .before .before .before .before .args .bytes .now) ≡ 0
+options : (c : tie.Else2) → optionsFault (file (c .before .before)) ≡ 0
 options c = sym (c .before .options-fault .ensures) ∙ c .if2 .left
 
-second : (c : tie.Else3) → recordFault (c .before .before .before .before .before .before .before .args .bytes .now) 2 18 ≡ 0
-second c = sym (c .before .record-fault2 .ensures) ∙ c .if3 .left
+second : (c : tie.Else3) → GoodRecord (file (firstPassed c)) 2 secondAt
+second c = passed _ _ _ (sym (c .before .record-fault2 .ensures) ∙ c .if3 .left)
 
-third : (c : tie.Else4) →
-    let bytes = c .before .before .before .before .before .before .before .before .before .before .args .bytes .now in
-    recordFault bytes 3 (thirdAt bytes) ≡ 0
-third c =
-    let bytes = c .before .before .before .before .before .before .before .before .before .before .args .bytes .now in
-    ap (λ (size : ℕ). recordFault bytes 3 (24 + size)) (sym (c .before .before .four-bytes .ensures))
-    ∙ sym (c .before .record-fault3 .ensures)
-    ∙ c .if4 .left
+none-refused : (c : tie.Else4) → NoneRefused (file (firstPassed (secondPassed c)))
+none-refused c =
+    let before-third = secondPassed c in
+    let before-second = firstPassed before-third in
+    record {
+      first = first before-second;
+      options = options (before-third .before .before);
+      second = sym (before-third .before .record-fault2 .ensures) ∙ before-third .if3 .left;
+      third =
+          ap (λ (size : ℕ). recordFault (file before-second) 3 (pointsAt + size)) (sym (c .before .before .four-bytes .ensures))
+          ∙ sym (c .before .record-fault3 .ensures)
+          ∙ c .if4 .left;
+    }
+
+third : (c : tie.Else4) → GoodRecord (file (firstPassed (secondPassed c))) 3 (thirdAt (file (firstPassed (secondPassed c))))
+third c = passed _ _ _ (none-refused c .third)
 
 ends : (c : tie.After-four-bytes2) →
-    24 + c .before .before .before .four-bytes .result + 6 + c .four-bytes2 .result
-    ≡ endOf (c .before .before .before .before .before .before .before .before .before .before .before .args .bytes .now)
+    pointsAt + c .before .before .before .four-bytes .result + headLength + c .four-bytes2 .result
+    ≡ endOf (file (firstPassed (secondPassed (c .before))))
 ends c = cc
-
-record-fault-requires : tie.Need-record-fault-requires
-record-fault-requires c κs = search needs
 
 returns : tie.Need-returns
 returns c = first-refused _ _ (c .before .record-fault .ensures) (c .if1 .taken)
@@ -48,96 +67,77 @@ options-fault-requires c κs = let p = passed _ _ _ (first c) in omega (arith, p
 returns-2 : tie.Need-returns-2
 returns-2 c = options-refused _ _ (first (c .before .before)) (c .before .options-fault .ensures) (c .if2 .taken)
 
-record-fault-requires-2 : tie.Need-record-fault-requires-2
-record-fault-requires-2 c κs = search needs
-
 returns-3 : tie.Need-returns-3
 returns-3 c =
-    second-refused _ _ (first (c .before .before .before .before)) (options (c .before .before))
-    (c .before .record-fault2 .ensures) (c .if3 .taken)
+    let known = c .before .before in
+    second-refused _ _ (first (known .before .before)) (options known) (c .before .record-fault2 .ensures) (c .if3 .taken)
 
 four-bytes-requires : tie.Need-four-bytes-requires
-four-bytes-requires c κs = omega (arith, passed _ _ _ (second c) .room)
-
-cast-at : tie.Need-cast-at
-cast-at c = search needs
-
-add-at : tie.Need-add-at
-add-at c = search needs
+four-bytes-requires c κs = omega (arith, second c .room)
 
 record-fault-requires-3 : tie.Need-record-fault-requires-3
-record-fault-requires-3 c κs = omega (arith, c .four-bytes .ensures, points-most (passed _ _ _ (second (c .before))))
+record-fault-requires-3 c κs = omega (arith, c .four-bytes .ensures, second (c .before) .size-most)
 
-cast-t11 : tie.Need-cast-t11
-cast-t11 c =
-    let second-passed = passed _ _ _ (second (c .before .before .before)) in
-    record { fits = omega (arith, c .before .before .four-bytes .ensures, points-most second-passed) }
+cast-t12 : tie.Need-cast-t12
+cast-t12 c =
+    let size = c .before .before in
+    record { fits = omega (arith, size .four-bytes .ensures, second (size .before) .size-most) }
 
 returns-4 : tie.Need-returns-4
 returns-4 c =
-    let d = c .before .before .before in
-    third-refused _ _ (first (d .before .before .before .before)) (options (d .before .before)) (second d) _
-    (ap (λ (size : ℕ). 24 + size) (c .before .before .four-bytes .ensures)) (c .before .record-fault3 .ensures) (c .if4 .taken)
-
-add-end : tie.Need-add-end
-add-end c = search needs
+    let size = c .before .before in
+    let known = size .before .before .before in
+    third-refused _ _ (first (known .before .before)) (options known) (sym (size .before .before .record-fault2 .ensures) ∙ size .before .if3 .left) _
+    (ap (λ (n : ℕ). pointsAt + n) (size .four-bytes .ensures)) (c .before .record-fault3 .ensures) (c .if4 .taken)
 
 four-bytes-requires-2 : tie.Need-four-bytes-requires-2
-four-bytes-requires-2 c κs = omega (arith, c .before .before .four-bytes .ensures, passed _ _ _ (third c) .room)
+four-bytes-requires-2 c κs = omega (arith, c .before .before .four-bytes .ensures, third c .room)
 
-cast-end : tie.Need-cast-end
-cast-end c = search needs
-
-add-end-2 : tie.Need-add-end-2
-add-end-2 c = search needs
-
-cast-t13 : tie.Need-cast-t13
-cast-t13 c =
-    let d = c .before .before in
-    let second-passed = passed _ _ _ (second (d .before .before .before)) in
-    record { fits = omega (arith, ends (c .before), points-most second-passed, faces-most (passed _ _ _ (third d))) }
+cast-t14 : tie.Need-cast-t14
+cast-t14 c =
+    let known = c .before .before in
+    record { fits = omega (arith, ends (c .before), second (secondPassed known) .size-most, third known .size-most) }
 
 returns-5 : tie.Need-returns-5
-returns-5 c =
-    let d = c .before .before .before .before .before in
-    spare-refused _ (first (d .before .before .before .before)) (options (d .before .before)) (second d) (third (c .before .before)) _
-    (ends (c .before)) (c .if5 .taken)
+returns-5 c = spare-refused (none-refused (c .before .before)) _ (ends (c .before)) (c .if5 .taken)
 
 head-of-requires : tie.Need-head-of-requires
 head-of-requires c κs =
-    let size = c .before .before .before .before .four-bytes .ensures in (
-      omega (arith, passed _ _ _ (second (c .before .before .before .before .before)) .room),
-      omega (arith, size, passed _ _ _ (third (c .before .before)) .room),
-      ap (λ (n : ℕ). 24 + n) size,
-    )
+    let known = c .before .before in
+    let size = known .before .before .four-bytes .ensures in
+    record {
+      second = omega (arith, second (secondPassed known) .room);
+      third-head = omega (arith, size, third known .room);
+      third-is = ap (λ (n : ℕ). pointsAt + n) size;
+    }
 
 returns-6 : tie.Need-returns-6
 returns-6 c =
-    let d = c .before .before .before .before .before .before in
-    all-good _ (first (d .before .before .before .before)) (options (d .before .before)) (second d) (third (c .before .before .before)) _
-    (ends (c .before .before)) (c .before .if5 .left) _ (c .head-of .ensures)
+    let last = c .before .before in
+    all-good (none-refused (last .before)) _ (ends last) (c .before .if5 .left) _ (c .head-of .ensures)
 
 pub read-scan-spec : {M : Type 1} → statement M
 read-scan-spec =
     tie.close
     (tie.spec
-    record-fault-requires
+    (λ c κs. search needs)
     returns
     options-fault-requires
     returns-2
-    record-fault-requires-2
+    (λ c κs. search needs)
+    (λ c. search needs)
     returns-3
     four-bytes-requires
-    cast-at
-    add-at
+    (λ c. search needs)
+    (λ c. search needs)
     record-fault-requires-3
-    cast-t11
+    cast-t12
     returns-4
-    add-end
+    (λ c. search needs)
     four-bytes-requires-2
-    cast-end
-    add-end-2
-    cast-t13
+    (λ c. search needs)
+    (λ c. search needs)
+    cast-t14
     returns-5
     head-of-requires
     returns-6)

@@ -5,7 +5,7 @@ use mathlib.Core.Path.{sym}
 use borrow.Author.Needs.{needs}
 use lib.ListN.{length}
 use lib.Seq.{length-take-le}
-use Rattle.scanfile.specs.Contents.{pointsOf, facesIn}
+use Rattle.scanfile.specs.Contents.{pointsOf, faceNumbersOf}
 use Rattle.scanfile.specs.Facts.{GoodFile}
 use Rattle.scanfile.proofs.GoodLaws.{good-file}
 use Rattle.thin.specs.Replies.{replyBy}
@@ -27,7 +27,7 @@ points-there c =
 faces-there : (c : tie.After-read-faces) → 3 * c .before .before .before .before .before .before .before .before .before .args .head .faces ≤ length (c .read-faces .last .1 .1 .1 .0)
 faces-there c =
     let a = c .before .before .before .before .before .before .before .before .before .args in
-    over-there (facesIn (a .bytes .now) (a .head .points) (a .head .faces)) (c .before .before .before .before .before .face-cells .result) (3 * a .head .faces)
+    over-there (faceNumbersOf (a .bytes .now) (a .head .points) (a .head .faces)) (c .before .before .before .before .before .face-cells .result) (3 * a .head .faces)
     (faces-length (a .bytes .now) (a .head .points) (a .head .faces)) (c .read-faces .ensures)
 
 point-cells-requires : tie.Need-point-cells-requires
@@ -40,13 +40,13 @@ slice-aggregate-read-points : tie.Need-slice-aggregate-read-points
 slice-aggregate-read-points c = search needs
 
 read-points-requires : tie.Need-read-points-requires
-read-points-requires c κs = let g = good (c .before .before .before .before .before) in (omega arith, omega arith)
+read-points-requires c κs = let g = good (c .before .before .before .before .before) in record { there = omega arith; room = omega arith }
 
 slice-aggregate-read-faces : tie.Need-slice-aggregate-read-faces
 slice-aggregate-read-faces c = search needs
 
 read-faces-requires : tie.Need-read-faces-requires
-read-faces-requires c κs = let g = good (c .before .before .before .before .before .before .before .before) in (omega arith, omega arith)
+read-faces-requires c κs = let g = good (c .before .before .before .before .before .before .before .before) in record { there = omega arith; room = omega arith }
 
 mul-points-end : tie.Need-mul-points-end
 mul-points-end c = let g = good (c .before .before .before .before .before .before .before .before .before .before) in search needs
@@ -77,7 +77,7 @@ unfolding replyBy
 returns c =
     let a = c .before .before .before .before .before .before .before .before .before .before .before .before .before .before .before .before .args in
     let points = pointsOf (a .bytes .now) (a .head .points) in
-    let faces = facesIn (a .bytes .now) (a .head .points) (a .head .faces) in
+    let faces = faceNumbersOf (a .bytes .now) (a .head .points) (a .head .faces) in
     let points-are = over-taken points (c .before .before .before .before .before .before .before .before .before .before .before .before .before .point-cells .result) (3 * a .head .points)
     (points-length (a .bytes .now) (a .head .points)) (c .before .before .before .before .before .before .before .before .before .before .read-points .ensures) in
     let faces-are = over-taken faces (c .before .before .before .before .before .before .before .before .before .before .before .before .face-cells .result) (3 * a .head .faces)

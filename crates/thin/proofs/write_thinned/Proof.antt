@@ -1,23 +1,40 @@
 -- `thin::write_thinned` meets its contract: the library's call leaves the outcome, and its mesh is listed. Assumes nothing.
+use mathlib.Core.Path.{_≡_}
 use borrow.Author.Needs.{needs}
 use Rattle.meaning.specs.Input.{Input}
+use Rattle.meaning.specs.Call.{Lent, lent, inputOf}
 use Rattle.meaning.specs.Outcome.{Outcome, outcome}
-use Rattle.thin.specs.Replies.{callOf}
+use Rattle.thin.specs.Replies.{optionsOf, callOf}
 use Rattle.thin.proofs.OutcomeLaws.{counted}
 use Rattle.thin.proofs.ReplyLaws.{same-call, shown, outcome-texted}
 use Rattle.thin.proofs.write_thinned.Statement.{statement}
 use Rattle.thin.proofs.write_thinned.Tie as tie
 
--- the function's entry, from where the library has answered
-abbrev start : tie.After-thin → tie.Start
-start c = c .before .before .before .before .before .before .before .before .before .before .before .before .before .before
+-- where the memory is made, from where the library has answered, and the function's entry
+abbrev made : tie.After-thin → tie.After-work-f64-cells
+made c = c .before .before .before .before .before .before .before
 
--- the input that the reply names, and its outcome
+abbrev start : tie.After-thin → tie.Start
+start c = made c .before .before .before .before .before .before .before .before
+
+-- the memory, the input that the reply names, and its outcome
+abbrev memory : tie.After-thin → Lent
+memory c =
+    let m = made c in
+    lent (m .before .before .before .before .point-cells .result) (m .before .before .before .face-cells .result) (m .before .before .work-u32-cells .result) (m .before .work-f32-cells .result) (m .work-f64-cells .result)
+
 abbrev callHere : tie.After-thin → Input
 callHere c = callOf (start c .args .head) (start c .args .points .now) (start c .args .faces .now)
 
 abbrev outcomeHere : tie.After-thin → Outcome
-outcomeHere c = outcome (callHere c) (start c .args .head .preserve)
+outcomeHere c = outcome (callHere c)
+
+-- the library is handed that input
+same : (c : tie.After-thin) → inputOf (start c .args .points .now) (start c .args .faces .now) (optionsOf (start c .args .head)) (memory c) ≡ callHere c
+same c =
+    let m = made c in
+    same-call (start c .args .head) (start c .args .points .now) (start c .args .faces .now) (memory c)
+    (m .before .before .before .before .point-cells .ensures) (m .before .before .before .face-cells .ensures) (m .before .before .work-u32-cells .ensures) (m .before .work-f32-cells .ensures) (m .work-f64-cells .ensures)
 
 point-cells-requires : tie.Need-point-cells-requires
 point-cells-requires c κs = search needs
@@ -49,6 +66,9 @@ slice-aggregate-thin-4 c = search needs
 slice-aggregate-thin-5 : tie.Need-slice-aggregate-thin-5
 slice-aggregate-thin-5 c = search needs
 
+slice-aggregate-thin-6 : tie.Need-slice-aggregate-thin-6
+slice-aggregate-thin-6 c = search needs
+
 thin-requires : tie.Need-thin-requires
 thin-requires c κs = search needs
 
@@ -60,15 +80,10 @@ slice-aggregate-write-answer-2 c = search needs
 
 write-answer-requires : tie.Need-write-answer-requires
 write-answer-requires c κs =
-    let called = c .before .before .before .before .before .before .before .before in
-    let left =
-    rw (same-call (start called .args .head) (start called .args .points .now) _ (start called .args .faces .now) _ _ _ _
-    (called .before .before .before .before .before .before .before .before .before .before .point-cells .ensures) (called .before .before .before .before .before .before .before .before .before .face-cells .ensures)
-    (called .before .before .before .before .before .before .before .before .work-u32-cells .ensures) (called .before .before .before .before .before .before .before .work-f32-cells .ensures)
-    (called .before .before .before .before .before .before .work-f64-cells .ensures)) at (called .thin .ensures) in (
+    let called = c .before .before .before .before .before .before .before .before .before in
+    let left = rw (same called) at (called .thin .ensures .answered) in (
       start called .pre,
-      shown (outcomeHere called) (counted (callHere called) (start called .args .head .preserve)) _ _ (left .answered) (left .points-out) (left .faces-out)
-          (search needs) (search needs),
+      shown (outcomeHere called) (counted (callHere called)) _ _ (left .answered) (left .points-out) (left .faces-out) (search needs) (search needs),
     )
 
 same-length : tie.Need-same-length
@@ -76,14 +91,10 @@ same-length c = search needs
 
 returns : tie.Need-returns
 returns c =
-    let called = c .before .before .before .before .before .before .before .before .before .before .before in
-    let left =
-    rw (same-call (start called .args .head) (start called .args .points .now) _ (start called .args .faces .now) _ _ _ _
-    (called .before .before .before .before .before .before .before .before .before .before .point-cells .ensures) (called .before .before .before .before .before .before .before .before .before .face-cells .ensures)
-    (called .before .before .before .before .before .before .before .before .work-u32-cells .ensures) (called .before .before .before .before .before .before .before .work-f32-cells .ensures)
-    (called .before .before .before .before .before .before .work-f64-cells .ensures)) at (called .thin .ensures) in
-    outcome-texted (outcomeHere called) (counted (callHere called) (start called .args .head .preserve)) _ _
-    (left .answered) (left .points-out) (left .faces-out) (start called .args .head .unit) (c .before .before .write-answer .ensures)
+    let called = c .before .before .before .before .before .before .before .before .before .before .before .before in
+    let left = rw (same called) at (called .thin .ensures .answered) in
+    outcome-texted (outcomeHere called) (counted (callHere called)) _ _ (left .answered) (left .points-out) (left .faces-out) (start called .args .head .unit)
+    (c .before .before .write-answer .ensures)
 
 pub write-thinned-spec : {M : Type 1} → statement M
 write-thinned-spec =
@@ -99,6 +110,7 @@ write-thinned-spec =
     slice-aggregate-thin-3
     slice-aggregate-thin-4
     slice-aggregate-thin-5
+    slice-aggregate-thin-6
     thin-requires
     slice-aggregate-write-answer
     slice-aggregate-write-answer-2

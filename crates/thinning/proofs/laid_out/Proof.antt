@@ -1,5 +1,6 @@
 -- `thinning::laid_out` meets its contract: what the four steps leave is the mesh at the start.
 -- Assumes nothing.
+use mathlib.Core.Path.{_∙_}
 use borrow.Author.Needs.{needs}
 use Rattle.thinning.proofs.LaidLaws.{quadrics-asked, laid-out}
 use Rattle.thinning.proofs.laid_out.Statement.{statement}
@@ -29,25 +30,23 @@ lay-quadrics-requires c κs =
     let step = c .before .before .before .before .before in
     let marked = bordered step in
     let start = entry (laid marked) in
-    quadrics-asked (start .args .points .now) (start .pre .0) (start .pre .1 .0) (start .pre .1 .1 .1)
-    (laid marked .lay-faces .ensures) (marked .mark-borders .ensures) (step .lay-points .ensures)
+    quadrics-asked (start .pre) (laid marked .lay-faces .ensures) (marked .mark-borders .ensures) (step .lay-points .ensures)
 
 same-length : tie.Need-same-length
-same-length c = search needs
+same-length c = let again = c .before .before .before .before .before .before .before .before .before .before .before in again .w2 .given ∙ again .before .before .before .before .w .given
 
 same-length-2 : tie.Need-same-length-2
-same-length-2 c = search needs
+same-length-2 c = c .before .before .before .before .before .before .before .p .given
 
 same-length-3 : tie.Need-same-length-3
-same-length-3 c = search needs
+same-length-3 c = c .before .q .given
 
 returns : tie.Need-returns
 returns c =
     let step = c .before .before .before .before .before .before .before .before in
     let marked = bordered step in
     let start = entry (laid marked) in
-    laid-out (start .args .points .now) (start .pre .0) (start .pre .1 .0) (start .pre .1 .1 .1)
-    (laid marked .lay-faces .ensures) (marked .mark-borders .ensures) (step .lay-points .ensures)
+    laid-out (start .pre) (laid marked .lay-faces .ensures) (marked .mark-borders .ensures) (step .lay-points .ensures)
     (c .before .before .lay-quadrics .ensures)
 
 pub laid-out-spec : {M : Type 1} → statement M

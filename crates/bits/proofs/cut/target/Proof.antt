@@ -13,14 +13,8 @@ as-written : (ratio : Float) (faces : ℕ) → cut (mul binary32 (sub binary32 (
 unfolding ofBits target
 as-written ratio faces = refl
 
-nearest-u32-to-f32-requires : tie.Need-nearest-u32-to-f32-requires
-nearest-u32-to-f32-requires c κs = search needs
-
-cut-requires : tie.Need-cut-requires
-cut-requires c κs = search needs
-
 returns : tie.Need-returns
 returns c = c .cut .ensures ∙ rw (c .before .nearest-u32-to-f32 .ensures) (as-written _ _)
 
 pub target-spec : {M : Type 1} → statement M
-target-spec = tie.close (tie.spec nearest-u32-to-f32-requires cut-requires returns)
+target-spec = tie.close (tie.spec (λ c κs. search needs) (λ c κs. search needs) returns)

@@ -7,18 +7,12 @@ use borrow.Author.Needs.{needs}
 use Rattle.bits.proofs.narrow.narrow_bits.Statement.{statement}
 use Rattle.bits.proofs.narrow.narrow_bits.Tie as tie
 
-exponent-of-requires : tie.Need-exponent-of-requires
-exponent-of-requires c κs = search needs
-
 narrow-normal-requires : tie.Need-narrow-normal-requires
 narrow-normal-requires c κs =
     let b = c .before .before .before .args .b in
     let z = c .before .before .exponent-of .result in
     let e = c .before .before .exponent-of .ensures in
     (is-from b z e (1023 - 126) (c .before .if1 .taken), is-below b z e (1023 + 128) (c .if2 .taken))
-
-returns : tie.Need-returns
-returns c = search needs
 
 narrow-outside-requires : tie.Need-narrow-outside-requires
 narrow-outside-requires c κs =
@@ -27,15 +21,12 @@ narrow-outside-requires c κs =
     let e = c .before .exponent-of .ensures in
     (⊎-elim (λ w. inr (not-below b z e (1023 + 128) (w .1 .left))) (λ w. inl (not-from b z e (1023 - 126) (w .left))) (c .if1 .came), kept b z e)
 
-returns-2 : tie.Need-returns-2
-returns-2 c = search needs
-
 pub narrow-bits-spec : {M : Type 1} → statement M
 narrow-bits-spec =
     tie.close
     (tie.spec
-    exponent-of-requires
+    (λ c κs. search needs)
     narrow-normal-requires
-    returns
+    (λ c. search needs)
     narrow-outside-requires
-    returns-2)
+    (λ c. search needs))

@@ -8,21 +8,6 @@ use borrow.Author.Needs.{needs}
 use Rattle.bits.proofs.narrow.narrow_normal.Statement.{statement}
 use Rattle.bits.proofs.narrow.narrow_normal.Tie as tie
 
-sub-size : tie.Need-sub-size
-sub-size c = search needs
-
-mul-size : tie.Need-mul-size
-mul-size c = search needs
-
-sub-size-2 : tie.Need-sub-size-2
-sub-size-2 c = search needs
-
-sign-of-requires : tie.Need-sign-of-requires
-sign-of-requires c κs = search needs
-
-nearest-even-requires : tie.Need-nearest-even-requires
-nearest-even-requires c κs = search needs
-
 cast-result : tie.Need-cast-result
 cast-result c = omega (arith, closest-le (c .before .before .args .b % 2 ^ 63 - (1023 - 127) * 2 ^ 52) (2 ^ 29))
 
@@ -36,11 +21,11 @@ pub narrow-normal-spec : {M : Type 1} → statement M
 narrow-normal-spec =
     tie.close
     (tie.spec
-    sub-size
-    mul-size
-    sub-size-2
-    sign-of-requires
-    nearest-even-requires
+    (λ c. search needs)
+    (λ c. search needs)
+    (λ c. search needs)
+    (λ c κs. search needs)
+    (λ c κs. search needs)
     cast-result
     add-result
     returns)

@@ -4,7 +4,7 @@ use Prim.Native.Nat.{_+_, _-_, _≤_, _<_}
 use mathlib.Core.Path.{sym}
 use mathlib.Core.Logic.{⊎-elim}
 use native.Mathlib.Omega.{arith}
-use Rattle.bits.specs.Parts.{field}
+use Rattle.bits.specs.Contracts.{field}
 use Rattle.bits.proofs.NarrowLaws.{zero-is, nan-is, infinity-is}
 use Rattle.bits.proofs.SignedExponent.{kept, is-below, not-below, is-from, not-from}
 use borrow.Author.Needs.{needs}
@@ -31,23 +31,11 @@ narrow-subnormal-requires c κs =
     let e = c .before .before .pre .1 in
     (is-from b z e (1023 - 150) (c .before .if1 .taken), is-below b z e (1023 - 126) (c .if2 .taken), kept b z e)
 
-returns : tie.Need-returns
-returns c = search needs
-
 returns-2 : tie.Need-returns-2
 returns-2 c = sym (nan-is (c .before .before .args .b) (search needs))
 
-sign-of-requires : tie.Need-sign-of-requires
-sign-of-requires c κs = search needs
-
 returns-3 : tie.Need-returns-3
 returns-3 c = rw (c .sign-of .ensures) (zero-is (c .before .before .before .before .args .b) (search needs) (tiny (c .before)))
-
-sign-of-requires-2 : tie.Need-sign-of-requires-2
-sign-of-requires-2 c κs = search needs
-
-add-result : tie.Need-add-result
-add-result c = search needs
 
 returns-4 : tie.Need-returns-4
 returns-4 c =
@@ -61,10 +49,10 @@ narrow-outside-spec =
     tie.close
     (tie.spec
     narrow-subnormal-requires
-    returns
+    (λ c. search needs)
     returns-2
-    sign-of-requires
+    (λ c κs. search needs)
     returns-3
-    sign-of-requires-2
-    add-result
+    (λ c κs. search needs)
+    (λ c. search needs)
     returns-4)

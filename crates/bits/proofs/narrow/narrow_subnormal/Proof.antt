@@ -4,7 +4,7 @@ use Prim.Native.Nat.{_-_, _^_}
 use mathlib.Core.Path.{_≡_}
 use native.Mathlib.Omega.{arith}
 use lib.Ieee.Nearest.{closest}
-use Rattle.bits.specs.Parts.{field}
+use Rattle.bits.specs.Contracts.{field}
 use Rattle.bits.proofs.NarrowLaws.{digits, subnormal-is, subnormal-small}
 use Rattle.bits.proofs.SignedExponent.{places, places-kept}
 use borrow.Author.Needs.{needs}
@@ -18,17 +18,8 @@ rounded c =
     let start = c .before .before in
     rw (places-kept (start .args .b) (start .args .exponent) (start .pre .2) (omega arith)) at (c .nearest-even .ensures)
 
-add-digits : tie.Need-add-digits
-add-digits c = search needs
-
-sub-places : tie.Need-sub-places
-sub-places c = search needs
-
 sub-places-2 : tie.Need-sub-places-2
 sub-places-2 c = rw (places (c .args .b) (c .args .exponent) (c .pre .2) (omega arith)) (record { sfits = omega arith })
-
-sign-of-requires : tie.Need-sign-of-requires
-sign-of-requires c κs = search needs
 
 cast-nearest-even : tie.Need-cast-nearest-even
 cast-nearest-even c = rw (places-kept (c .before .args .b) (c .before .args .exponent) (c .before .pre .2) (omega arith)) (tt, record { fits = omega arith })
@@ -50,10 +41,10 @@ pub narrow-subnormal-spec : {M : Type 1} → statement M
 narrow-subnormal-spec =
     tie.close
     (tie.spec
-    add-digits
-    sub-places
+    (λ c. search needs)
+    (λ c. search needs)
     sub-places-2
-    sign-of-requires
+    (λ c κs. search needs)
     cast-nearest-even
     nearest-even-requires
     cast-result

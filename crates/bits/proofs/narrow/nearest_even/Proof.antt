@@ -11,26 +11,14 @@ use Rattle.bits.proofs.narrow.nearest_even.Tie as tie
 half : (c : tie.Start) → Halved (c .args .places)
 half c = halved (c .args .places) (search needs) (search needs)
 
-sub-below-half : tie.Need-sub-below-half
-sub-below-half c = search needs
-
-shl-below-half : tie.Need-shl-below-half
-shl-below-half c = search needs
-
 sub-below-half-2 : tie.Need-sub-below-half-2
 sub-below-half-2 c = let h = half c in omega arith
-
-shr-last-digit : tie.Need-shr-last-digit
-shr-last-digit c = search needs
 
 add-result : tie.Need-add-result
 add-result c = let h = half c in omega arith
 
 add-result-2 : tie.Need-add-result-2
 add-result-2 c = let h = half c in omega arith
-
-shr-result : tie.Need-shr-result
-shr-result c = search needs
 
 returns : tie.Need-returns
 returns c = rw (half c .shifted) (half-even (c .args .n) (2 ^ c .args .places) (2 ^ (c .args .places - 1)) (pow-pos (c .args .places)) (half c .twice))
@@ -39,11 +27,11 @@ pub nearest-even-spec : {M : Type 1} → statement M
 nearest-even-spec =
     tie.close
     (tie.spec
-    sub-below-half
-    shl-below-half
+    (λ c. search needs)
+    (λ c. search needs)
     sub-below-half-2
-    shr-last-digit
+    (λ c. search needs)
     add-result
     add-result-2
-    shr-result
+    (λ c. search needs)
     returns)

@@ -19,12 +19,6 @@ turned m h =
     let bits : 2 ^ 64 - 1 - m ≡ 2 ^ 64 - suc m = omega arith in
     rw bits (toZ-neg w64 m h)
 
-cast-result : tie.Need-cast-result
-cast-result c = search needs
-
-cast-result-2 : tie.Need-cast-result-2
-cast-result-2 c = search needs
-
 returns : tie.Need-returns
 unfolding orderKey
 returns c = toZ-pos w64 (c .if1 .taken) ∙ rw (lt-ltb _ _ (c .if1 .taken))
@@ -34,4 +28,4 @@ unfolding orderKey
 returns-2 c = turned (c .before .args .b - 2 ^ 63) (omega arith) ∙ rw (le-ltb _ _ (c .if1 .left))
 
 pub order-bits-spec : {M : Type 1} → statement M
-order-bits-spec = tie.close (tie.spec cast-result cast-result-2 returns returns-2)
+order-bits-spec = tie.close (tie.spec (λ c. search needs) (λ c. search needs) returns returns-2)

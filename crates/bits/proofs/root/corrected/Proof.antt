@@ -19,12 +19,6 @@ Inv-loop2 n guess r₀ r = r * r < n + r
 abbrev μ-loop2 : tie.MeasureT-loop2
 μ-loop2 n guess r₀ r = 0x100_0000 - r
 
-loop-holds : tie.Need-loop-holds Inv-loop μ-loop Inv-loop2 μ-loop2
-loop-holds c = omega arith
-
-add-loop : tie.Need-add-loop Inv-loop μ-loop Inv-loop2 μ-loop2
-add-loop c = omega arith
-
 mul-loop : tie.Need-mul-loop Inv-loop μ-loop Inv-loop2 μ-loop2
 mul-loop c = omega (arith, mul-le-mul-right (c .loop .r) (c .loop .inv))
 
@@ -34,29 +28,17 @@ sub-r c = omega (arith, mul-le-mul-right (c .before .loop .r) (c .before .loop .
 loop-less : tie.Need-loop-less Inv-loop μ-loop Inv-loop2 μ-loop2
 loop-less c = omega (arith, mul-le-mul-right (c .before .loop .r) (c .before .loop .inv))
 
-loop-again : tie.Need-loop-again Inv-loop μ-loop Inv-loop2 μ-loop2
-loop-again c = omega arith
-
-loop2-holds : tie.Need-loop2-holds Inv-loop μ-loop Inv-loop2 μ-loop2
-loop2-holds c = omega arith
-
 mul-loop2 : tie.Need-mul-loop2 Inv-loop μ-loop Inv-loop2 μ-loop2
 mul-loop2 c = omega (arith, root-high (c .before .before .before .args .n) (c .loop2 .r) (omega arith) (c .loop2 .inv))
 
 add-loop2 : tie.Need-add-loop2 Inv-loop μ-loop Inv-loop2 μ-loop2
 add-loop2 c = omega (arith, root-high (c .before .before .before .args .n) (c .loop2 .r) (omega arith) (c .loop2 .inv))
 
-add-r : tie.Need-add-r Inv-loop μ-loop Inv-loop2 μ-loop2
-add-r c = omega arith
-
 loop2-less : tie.Need-loop2-less Inv-loop μ-loop Inv-loop2 μ-loop2
 loop2-less c = omega (arith, root-high (c .before .before .before .before .args .n) (c .before .loop2 .r) (omega arith) (c .before .loop2 .inv))
 
 loop2-again : tie.Need-loop2-again Inv-loop μ-loop Inv-loop2 μ-loop2
 loop2-again c = omega (arith, square-next (c .before .loop2 .r))
-
-returns : tie.Need-returns Inv-loop μ-loop Inv-loop2 μ-loop2
-returns c = omega arith
 
 pub corrected-spec : {M : Type 1} → statement M
 corrected-spec =
@@ -66,16 +48,16 @@ corrected-spec =
     μ-loop
     Inv-loop2
     μ-loop2
-    loop-holds
-    add-loop
+    (λ c. omega arith)
+    (λ c. omega arith)
     mul-loop
     sub-r
     loop-less
-    loop-again
-    loop2-holds
+    (λ c. omega arith)
+    (λ c. omega arith)
     mul-loop2
     add-loop2
-    add-r
+    (λ c. omega arith)
     loop2-less
     loop2-again
-    returns)
+    (λ c. omega arith))

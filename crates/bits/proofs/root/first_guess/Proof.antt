@@ -13,9 +13,6 @@ int-to-float-x : tie.Need-int-to-float-x
 unfolding inFloat
 int-to-float-x c = le→leb (c .before .args .n) (2 ^ 53) (omega arith)
 
-line-near-requires : tie.Need-line-near-requires
-line-near-requires c κs = search needs
-
 float-to-bits-result : tie.Need-float-to-bits-result
 unfolding ofBits
 float-to-bits-result c =
@@ -28,9 +25,6 @@ float-to-bits-result c =
     let part = add-not-below binary64 (mul-not-below binary64 twice above) (not-below above) in
     not-below-no-nan (add-not-below binary64 part (div-not-below binary64 x twice))
 
-returns : tie.Need-returns
-returns c = search needs
-
 pub first-guess-spec : {M : Type 1} → statement M
 first-guess-spec =
-    tie.close (tie.spec int-to-float-x line-near-requires float-to-bits-result returns)
+    tie.close (tie.spec int-to-float-x (λ c κs. search needs) float-to-bits-result (λ c. search needs))

@@ -13,18 +13,6 @@ use Rattle.bits.proofs.root.low_root.Tie as tie
 returns : tie.Need-returns
 returns c = sym (ap finiteRoot (c .if1 .taken) ∙ root-of-zero)
 
-shift-of-requires : tie.Need-shift-of-requires
-shift-of-requires c κs = search needs
-
-shl-scaled-root : tie.Need-shl-scaled-root
-shl-scaled-root c = search needs
-
-sub-scaled-root : tie.Need-sub-scaled-root
-sub-scaled-root c = search needs
-
-scaled-root-requires : tie.Need-scaled-root-requires
-scaled-root-requires c κs = search needs
-
 returns-2 : tie.Need-returns-2
 returns-2 c =
     let b = c .before .before .before .args .b in
@@ -37,8 +25,8 @@ low-root-spec =
     tie.close
     (tie.spec
     returns
-    shift-of-requires
-    shl-scaled-root
-    sub-scaled-root
-    scaled-root-requires
+    (λ c κs. search needs)
+    (λ c. search needs)
+    (λ c. search needs)
+    (λ c κs. search needs)
     returns-2)

@@ -9,20 +9,8 @@ use borrow.Author.Needs.{needs}
 use Rattle.bits.proofs.root.root_bits.Statement.{statement}
 use Rattle.bits.proofs.root.root_bits.Tie as tie
 
-low-root-requires : tie.Need-low-root-requires
-low-root-requires c κs = search needs
-
 returns : tie.Need-returns
 returns c = c .low-root .ensures ∙ sym (rootBits-finite _ (omega arith))
-
-add-scaled-root : tie.Need-add-scaled-root
-add-scaled-root c = search needs
-
-add-scaled-root-2 : tie.Need-add-scaled-root-2
-add-scaled-root-2 c = search needs
-
-scaled-root-requires : tie.Need-scaled-root-requires
-scaled-root-requires c κs = search needs
 
 returns-2 : tie.Need-returns-2
 returns-2 c =
@@ -44,11 +32,11 @@ pub root-bits-spec : {M : Type 1} → statement M
 root-bits-spec =
     tie.close
     (tie.spec
-    low-root-requires
+    (λ c κs. search needs)
     returns
-    add-scaled-root
-    add-scaled-root-2
-    scaled-root-requires
+    (λ c. search needs)
+    (λ c. search needs)
+    (λ c κs. search needs)
     returns-2
     returns-3
     returns-4

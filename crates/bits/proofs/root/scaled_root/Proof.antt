@@ -6,18 +6,6 @@ use borrow.Author.Needs.{needs}
 use Rattle.bits.proofs.root.scaled_root.Statement.{statement}
 use Rattle.bits.proofs.root.scaled_root.Tie as tie
 
-mul-n : tie.Need-mul-n
-mul-n c = search needs
-
-cast-n : tie.Need-cast-n
-cast-n c = search needs
-
-shl-n : tie.Need-shl-n
-shl-n c = search needs
-
-mul-result : tie.Need-mul-result
-mul-result c = search needs
-
 whole-root-requires : tie.Need-whole-root-requires
 whole-root-requires c κs = omega (arith, shifted (c .args .significand) (c .args .power) (omega arith) (omega arith))
 
@@ -39,4 +27,4 @@ returns c =
 pub scaled-root-spec : {M : Type 1} → statement M
 scaled-root-spec =
     tie.close
-    (tie.spec mul-n cast-n shl-n mul-result whole-root-requires cast-result add-result returns)
+    (tie.spec (λ c. search needs) (λ c. search needs) (λ c. search needs) (λ c. search needs) whole-root-requires cast-result add-result returns)

@@ -1,84 +1,74 @@
 -- `folding::steps::kill` meets its contract. The loop's invariant: the first `i` slots have had their turn, and those of them that hold x are counted.
 -- The measure is what is left of `n`. Assumes nothing.
-use Prim.Native.Nat.{_+_, _-_, _*_, _<_, _≤_}
+use Prim.Native.Nat.{ℕ, _+_, _-_, _*_, _<_}
+use native.Mathlib.Nat.{le-antisymm}
 use native.Mathlib.Omega.{arith}
-use mathlib.Core.Path.{_≡_}
-use lib.ListN.{getD}
-use denote.Ref.{now}
-use Rattle.lists.specs.Lists.{count, stretch}
+use mathlib.Core.Path.{ap}
 use Rattle.walk.specs.Faces.{holds, faceAt}
-use Rattle.lists.proofs.TestLaws.{flag-le}
+use Rattle.ring.proofs.TurnLaws.{Tally, tally-none, tally-few, tally-more}
 use Rattle.folding.specs.Contracts.Steps.{killed}
 use Rattle.folding.proofs.TurnLaws.{Turning, turn-start, turn-slot, turn-inside, turn-next, turn-end}
-use Rattle.folding.proofs.KillLaws.{killed-but, kill-none, kill-count, kill-counted}
+use Rattle.folding.proofs.KillLaws.{face-flags, killed-but}
 use Rattle.folding.proofs.steps.kill.Statement.{statement}
 use Rattle.folding.proofs.steps.kill.Tie as tie
 
 abbrev Inv-loop : tie.InvT-loop
 Inv-loop w₀ f list n x gone₀ i₀ w gone i =
-    Turning (killed f x) (3 * f) (4 * f) w₀ list n i w × (gone ≡ count (λ k. holds x (faceAt w₀ k)) (stretch w₀ list i)) × (gone ≤ i)
+    Turning (killed f x) (3 * f) (4 * f) w₀ list n i w × Tally (λ k. holds x (faceAt w₀ k)) w₀ list i gone
 
 abbrev μ-loop : tie.MeasureT-loop
 μ-loop w₀ f list n x gone₀ i₀ w gone i = n - i
 
 loop-holds : tie.Need-loop-holds Inv-loop μ-loop
-loop-holds c = (turn-start, kill-none (c .before .args .f) (c .before .args .x) (now (c .before .args .w)) (c .before .args .list), omega arith)
+loop-holds c = (turn-start, tally-none _ _ _)
 
-add-k : tie.Need-add-k Inv-loop μ-loop
-add-k c = omega arith
+-- ---- the places that a later one looks back to
 
-mul-k : tie.Need-mul-k Inv-loop μ-loop
-mul-k c = omega arith
+abbrev read : tie.After-slice-known2 Inv-loop μ-loop → tie.After-slot-at Inv-loop μ-loop
+read c = c .before .before .before .before
 
-slice-read-k : tie.Need-slice-read-k Inv-loop μ-loop
-slice-read-k c = omega arith
+abbrev turn : tie.After-slot-at Inv-loop μ-loop → tie.At-loop Inv-loop μ-loop
+turn c = c .before .before .before
+
+abbrev start : tie.After-slot-at Inv-loop μ-loop → tie.Start Inv-loop μ-loop
+start c = turn c .before .before
+
+-- ---- a turn
 
 -- the slot is one of f
-inside : (c : tie.After-slice-known2 Inv-loop μ-loop) →
-    getD (c .before .before .loop .w) (c .before .before .before .before .args .list + c .before .before .loop .i) 0 < c .before .before .before .before .args .f
-inside c = turn-inside (omega arith) (omega arith) (c .before .before .before .before .pre .0) (c .before .before .loop .inv .0)
+inside : (c : tie.After-slot-at Inv-loop μ-loop) → c .slot-at .result < start c .args .f
+inside c = turn-inside (omega arith) (c .slot-at .ensures) (turn c .loop .inv .0) (omega arith) (start c .pre .0)
 
-cast-k : tie.Need-cast-k Inv-loop μ-loop
-cast-k c = omega (arith, inside c)
+-- one more of the list is counted
+counted : (c : tie.After-slice-known2 Inv-loop μ-loop) →
+    let given = start (read c) .args in
+    let loop = turn (read c) .loop in
+    Tally (λ k. holds (given .x) (faceAt (given .w .now) k)) (given .w .now) (given .list) (loop .i + 1) (loop .gone + c .before .before .kill-face .result)
+counted c =
+    let at = read c in
+    let loop = turn at .loop in
+    tally-more (loop .inv .1) (turn-slot (omega arith) (at .slot-at .ensures) (loop .inv .0))
+    (ap (holds (start at .args .x)) (face-flags (loop .inv .0 .but) (at .slot-at .result) (inside at)))
+    (ap (λ (m : ℕ). loop .gone + m) (c .before .before .kill-face .ensures .1))
 
--- at most one more is killed
-one : (c : tie.After-slice-known3 Inv-loop μ-loop) → c .before .before .kill-face .result ≤ 1
-one c =
-    let turn = c .before .before .before .before in
-    let loop = turn .before .before .loop in
-    let args = turn .before .before .before .before .args in
-    rw (c .before .before .kill-face .ensures .1) (flag-le (holds (args .x) (faceAt (loop .w) (getD (loop .w) (args .list + loop .i) 0))))
+-- ---- the needs
 
 kill-face-requires : tie.Need-kill-face-requires Inv-loop μ-loop
 kill-face-requires c κs = omega (arith, inside (c .before))
 
 add-gone : tie.Need-add-gone Inv-loop μ-loop
-add-gone c = omega (arith, one c)
-
-add-i : tie.Need-add-i Inv-loop μ-loop
-add-i c = omega arith
-
-loop-less : tie.Need-loop-less Inv-loop μ-loop
-loop-less c = omega arith
+add-gone c = omega (arith, tally-few (counted c))
 
 loop-again : tie.Need-loop-again Inv-loop μ-loop
 loop-again c =
-    let turn = c .before .before .before .before in
-    let loop = turn .before .before .loop in
-    let args = turn .before .before .before .before .args in
-    let called = c .before .before .kill-face .ensures in (
-      turn-next (omega arith) (omega arith) (rw (called .0) (killed-but _ _ _ _ (inside turn))) (called .0) (loop .inv .0),
-      kill-count (args .f) (args .x) (args .list) (loop .i) (loop .inv .0 .but) (turn-slot (omega arith) (loop .inv .0)) (inside turn) (loop .inv .1) (called .1),
-      omega (arith, one c),
-    )
-
-same-length : tie.Need-same-length Inv-loop μ-loop
-same-length c = omega arith
+    let at = read c in
+    let called = c .before .before .kill-face .ensures .0 in
+    (turn-next (omega arith) (at .slot-at .ensures) (turn at .loop .inv .0) (omega arith) (rw called (killed-but _ _ _ _ (inside at))) called, counted c)
 
 returns : tie.Need-returns Inv-loop μ-loop
 returns c =
-    let args = c .before .before .before .args in
-    (turn-end (omega arith) (c .before .loop .inv .0), kill-counted (args .f) (args .x) (now (args .w)) (args .list) (omega arith) (omega arith) (c .before .loop .inv .1))
+    let inv = c .before .loop .inv in
+    (turn-end (omega arith) (inv .0), (rw (le-antisymm (inv .0 .most) (c .loop-test .left)) at (inv .1)) .total)
 
 pub kill-spec : {M : Type 1} → statement M
 kill-spec =
@@ -87,14 +77,11 @@ kill-spec =
     Inv-loop
     μ-loop
     loop-holds
-    add-k
-    mul-k
-    slice-read-k
-    cast-k
+    (λ c κs. omega arith)
     kill-face-requires
     add-gone
-    add-i
-    loop-less
+    (λ c. omega arith)
+    (λ c. omega arith)
     loop-again
-    same-length
+    (λ c. omega arith)
     returns)

@@ -9,18 +9,6 @@ use borrow.Author.Needs.{needs}
 use Rattle.folding.proofs.steps.kill_face.Statement.{statement}
 use Rattle.folding.proofs.steps.kill_face.Tie as tie
 
-face-in-requires : tie.Need-face-in-requires
-face-in-requires c κs = search needs
-
-face-holds-requires : tie.Need-face-holds-requires
-face-holds-requires c κs = search needs
-
-set-live-requires : tie.Need-set-live-requires
-set-live-requires c κs = search needs
-
-same-length : tie.Need-same-length
-same-length c = search needs
-
 returns : tie.Need-returns
 unfolding killed
 returns c =
@@ -29,9 +17,6 @@ returns c =
     let held : holds (args .x) (faceAt (now (args .w)) (args .k)) ≡ true =
     sym (ap (holds (args .x)) (called .before .face-in .ensures)) ∙ sym (called .face-holds .ensures) ∙ c .before .before .before .before .if1 .taken in
     (c .before .before .set-live .ensures ∙ rw held, rw held)
-
-same-length-2 : tie.Need-same-length-2
-same-length-2 c = search needs
 
 returns-2 : tie.Need-returns-2
 unfolding killed
@@ -45,11 +30,4 @@ returns-2 c =
 pub kill-face-spec : {M : Type 1} → statement M
 kill-face-spec =
     tie.close
-    (tie.spec
-    face-in-requires
-    face-holds-requires
-    set-live-requires
-    same-length
-    returns
-    same-length-2
-    returns-2)
+    (tie.spec (λ c κs. search needs) (λ c κs. search needs) (λ c κs. search needs) (λ c. search needs) returns (λ c. search needs) returns-2)

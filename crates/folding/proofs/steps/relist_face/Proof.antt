@@ -12,19 +12,10 @@ use borrow.Author.Needs.{needs}
 use Rattle.folding.proofs.steps.relist_face.Statement.{statement}
 use Rattle.folding.proofs.steps.relist_face.Tie as tie
 
-live-at-requires : tie.Need-live-at-requires
-live-at-requires c κs = search needs
-
-corner-of-requires : tie.Need-corner-of-requires
-corner-of-requires c κs = search needs
-
 move-corner-requires : tie.Need-move-corner-requires
 move-corner-requires c κs =
     let args = c .before .before .before .before .before .before .before .args in
     omega (arith, corner-slot (now (args .w)) (args .k) (args .old))
-
-same-length : tie.Need-same-length
-same-length c = search needs
 
 returns : tie.Need-returns
 unfolding relisted
@@ -36,9 +27,6 @@ returns c =
     eq-eqb _ _ (sym (asked .live-at .ensures) ∙ called .before .before .if1 .taken) in
     c .before .before .move-corner .ensures ∙ rw (alive, called .corner-of .ensures)
 
-same-length-2 : tie.Need-same-length-2
-same-length-2 c = search needs
-
 returns-2 : tie.Need-returns-2
 unfolding relisted
 returns-2 c =
@@ -49,12 +37,4 @@ returns-2 c =
 
 pub relist-face-spec : {M : Type 1} → statement M
 relist-face-spec =
-    tie.close
-    (tie.spec
-    live-at-requires
-    corner-of-requires
-    move-corner-requires
-    same-length
-    returns
-    same-length-2
-    returns-2)
+    tie.close (tie.spec (λ c κs. search needs) (λ c κs. search needs) move-corner-requires (λ c. search needs) returns (λ c. search needs) returns-2)

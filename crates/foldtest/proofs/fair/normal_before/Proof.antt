@@ -4,20 +4,11 @@ use borrow.Author.Needs.{needs}
 use Rattle.foldtest.proofs.fair.normal_before.Statement.{statement}
 use Rattle.foldtest.proofs.fair.normal_before.Tie as tie
 
-cast-point-at : tie.Need-cast-point-at
-cast-point-at c = search needs
-
 point-at-requires : tie.Need-point-at-requires
 point-at-requires c κs = c .before .before .pre .a-in
 
-cast-point-at-2 : tie.Need-cast-point-at-2
-cast-point-at-2 c = search needs
-
 point-at-requires-2 : tie.Need-point-at-requires-2
 point-at-requires-2 c κs = c .before .before .before .before .pre .b-in
-
-cast-point-at-3 : tie.Need-cast-point-at-3
-cast-point-at-3 c = search needs
 
 point-at-requires-3 : tie.Need-point-at-requires-3
 point-at-requires-3 c κs = c .before .before .before .before .before .before .pre .c-in
@@ -33,11 +24,11 @@ pub normal-before-spec : {M : Type 1} → statement M
 normal-before-spec =
     tie.close
     (tie.spec
-    cast-point-at
+    (λ c. search needs)
     point-at-requires
-    cast-point-at-2
+    (λ c. search needs)
     point-at-requires-2
-    cast-point-at-3
+    (λ c. search needs)
     point-at-requires-3
     (λ c κs. tt)
     returns)

@@ -10,7 +10,7 @@ enter-listed-requires c κs =
     let listed = c .before .before .before .before .before in
     let start = listed .before .before .before .before .before in
     let given = start .pre in (
-      around-ready (given .0) (given .1 .0) (listed .list-around .ensures) (start .args .limit) (given .1 .1),
+      around-ready (given .0) (given .1 .0) (listed .list-around .ensures) (start .args .bounds .limit) (given .1 .1),
       around-few (given .0) (given .1 .0) (listed .list-around .ensures),
     )
 
@@ -19,7 +19,7 @@ returns c =
     let done = c .before .before .before .before .before .before in
     let listed = done .before .before .before .before .before .before in
     let start = listed .before .before .before .before .before in
-    around-entered (start .pre .0) (start .pre .1 .0) (listed .list-around .ensures) (start .args .limit) (done .enter-listed .ensures)
+    around-entered (start .pre .0) (start .pre .1 .0) (listed .list-around .ensures) (start .args .bounds .limit) (done .enter-listed .ensures)
 
 pub enter-around-spec : {M : Type 1} → statement M
 enter-around-spec =

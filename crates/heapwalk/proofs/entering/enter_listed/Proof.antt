@@ -2,7 +2,7 @@
 -- The measure is how many points are left. Assumes nothing.
 use Prim.Native.Nat.{_≤_, _-_}
 use native.Mathlib.Omega.{arith}
-use mathlib.Core.Path.{_≡_, refl}
+use mathlib.Core.Path.{_≡_}
 use borrow.Author.Needs.{needs}
 use Rattle.memory.specs.Memory.{aroundIn}
 use Rattle.heapwalk.specs.Contracts.Listing.{pairsWith, EnteredBeside}
@@ -11,40 +11,43 @@ use Rattle.heapwalk.proofs.entering.enter_listed.Statement.{statement}
 use Rattle.heapwalk.proofs.entering.enter_listed.Tie as tie
 
 abbrev Inv-loop : tie.InvT-loop
-Inv-loop w₀ p₀ q₀ v f n x count limit bound entries₀ i₀ w p q entries i =
-    (i ≤ count) × EnteredBeside v f w₀ p₀ q₀ n bound (pairsWith v f w₀ p₀ q₀ limit bound x (aroundIn v f w₀ i)) w p q entries
+Inv-loop w₀ p₀ q₀ v f n x count bounds entries₀ i₀ w p q entries i =
+    (i ≤ count) × EnteredBeside v f w₀ p₀ q₀ n (bounds .size) (pairsWith v f w₀ p₀ q₀ (bounds .limit) (bounds .size) x (aroundIn v f w₀ i)) w p q entries
 
 abbrev μ-loop : tie.MeasureT-loop
-μ-loop w₀ p₀ q₀ v f n x count limit bound entries₀ i₀ w p q entries i = count - i
+μ-loop w₀ p₀ q₀ v f n x count bounds entries₀ i₀ w p q entries i = count - i
 
 loop-holds : tie.Need-loop-holds Inv-loop μ-loop
 loop-holds c =
     let start = c .before .before .before in
     (search needs, listed-none (start .pre .0) (start .pre .1))
 
-slice-read-y : tie.Need-slice-read-y Inv-loop μ-loop
-slice-read-y c =
+around-at-requires : tie.Need-around-at-requires Inv-loop μ-loop
+around-at-requires c κs =
     let turn = c .before .before in
+    let start = turn .before .before .before .before in
     omega (
       arith,
-      turn .before .before .before .before .pre .0 .«open» .tidy .room .long,
-      turn .before .before .before .before .pre .1,
+      start .pre .0 .«open» .tidy .room .long,
+      start .pre .1,
       turn .loop .inv .0,
       turn .loop .inv .1 .entered .enqueued .but .same-length,
     )
 
 enter-pair-requires : tie.Need-enter-pair-requires Inv-loop μ-loop
 enter-pair-requires c κs =
-    let turn = c .before .before .before .before .before in
+    let read = c .before .before .before in
+    let turn = read .before .before .before in
     let start = turn .before .before .before .before in
-    turn-ready (start .pre .0) (start .pre .1) (turn .loop .inv .1) (search needs) refl
+    turn-ready (start .pre .0) (start .pre .1) (turn .loop .inv .1) (search needs) (read .around-at .ensures)
 
 loop-again : tie.Need-loop-again Inv-loop μ-loop
 loop-again c =
     let done = c .before .before .before .before .before .before in
-    let turn = done .before .before .before .before .before .before in
+    let read = done .before .before .before .before in
+    let turn = read .before .before .before in
     let start = turn .before .before .before .before in
-    (search needs, turn-done (start .pre .0) (start .pre .1) (turn .loop .inv .1) (search needs) refl (done .enter-pair .ensures))
+    (search needs, turn-done (start .pre .0) (start .pre .1) (turn .loop .inv .1) (search needs) (read .around-at .ensures) (done .enter-pair .ensures))
 
 returns : tie.Need-returns Inv-loop μ-loop
 returns c =
@@ -59,12 +62,7 @@ enter-listed-spec =
     Inv-loop
     μ-loop
     loop-holds
-    (λ c. search needs)
-    (λ c. search needs)
-    (λ c. search needs)
-    (λ c. search needs)
-    (λ c. search needs)
-    slice-read-y
+    around-at-requires
     enter-pair-requires
     (λ c. search needs)
     (λ c. search needs)

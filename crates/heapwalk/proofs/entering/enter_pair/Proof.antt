@@ -26,13 +26,13 @@ entry c = c .before .before .before .before .before .before .before .before .bef
 candidate : (c : tie.After-pair-candidate) →
     let given = entry c .args in
     c .pair-candidate .result
-    ≡ pairCandidate (given .limit) (given .bound)
+    ≡ pairCandidate (given .bounds .limit) (given .bounds .size)
     (vertexAt (given .v) (given .f) (given .w .now) (given .p .now) (given .q .now) (given .x))
     (vertexAt (given .v) (given .f) (given .w .now) (given .p .now) (given .q .now) (given .y))
 candidate c =
     let given = entry c .args in
     c .pair-candidate .ensures
-    ∙ ap₂ (pairCandidate (given .limit) (given .bound))
+    ∙ ap₂ (pairCandidate (given .bounds .limit) (given .bounds .size))
     (c .before .before .before .before .before .vertex-at .ensures) (c .before .vertex-at2 .ensures)
 
 push-requires : tie.Need-push-requires
@@ -58,7 +58,7 @@ returns c =
     let start = entry (found .before .before) in
     let ready = start .pre in
     let same = candidate-eligible _ _ _ _ _ _ (sym (found .cost .given .1) ∙ candidate (found .before .before)) in
-    entered-one ready (same .0) (pushed .push .ensures .0) (pushed .push .ensures .1 (start .args .bound) (ready .«open» .kept) (same .1) (same .2))
+    entered-one ready (same .0) (pushed .push .ensures .0) (pushed .push .ensures .1 (start .args .bounds .size) (ready .«open» .kept) (same .1) (same .2))
 
 returns-2 : tie.Need-returns-2
 unfolding fits

@@ -9,10 +9,10 @@ use Rattle.heapwalk.proofs.entering.enter_start.Statement.{statement}
 use Rattle.heapwalk.proofs.entering.enter_start.Tie as tie
 
 abbrev Inv-loop : tie.InvT-loop
-Inv-loop w₀ p₀ q₀ v f limit bound n₀ x₀ w p q n x = (x ≤ v) × Entered v f w₀ p₀ q₀ 0 bound (risingBelow v f w₀ p₀ q₀ limit bound x) w p q n
+Inv-loop w₀ p₀ q₀ v f bounds n₀ x₀ w p q n x = (x ≤ v) × Entered v f w₀ p₀ q₀ 0 (bounds .size) (risingBelow v f w₀ p₀ q₀ (bounds .limit) (bounds .size) x) w p q n
 
 abbrev μ-loop : tie.MeasureT-loop
-μ-loop w₀ p₀ q₀ v f limit bound n₀ x₀ w p q n x = v - x
+μ-loop w₀ p₀ q₀ v f bounds n₀ x₀ w p q n x = v - x
 
 empty-requires : tie.Need-empty-requires Inv-loop μ-loop
 empty-requires c κs =
@@ -23,7 +23,7 @@ loop-holds : tie.Need-loop-holds Inv-loop μ-loop
 loop-holds c =
     let emptied = c .before .before in
     let start = emptied .before .before .before .before .before .before in
-    (search needs, starting-none (start .pre .0) (emptied .empty .ensures) (start .pre .1 .0) (start .args .limit) (start .args .bound))
+    (search needs, starting-none (start .pre .0) (emptied .empty .ensures) (start .pre .1 .0) (start .args .bounds .limit) (start .args .bounds .size))
 
 cast-enter-around : tie.Need-cast-enter-around Inv-loop μ-loop
 cast-enter-around c =
@@ -39,7 +39,7 @@ enter-around-requires c κs =
       done .«open»,
       (
         search needs,
-        starting-room (start .pre .0) (emptied .empty .ensures) (start .pre .1 .0) (start .args .limit) (start .args .bound)
+        starting-room (start .pre .0) (emptied .empty .ensures) (start .pre .1 .0) (start .args .bounds .limit) (start .args .bounds .size)
             (turn .loop .x) done (search needs),
       ),
     )
@@ -51,7 +51,7 @@ loop-again c =
     let emptied = turn .before .before .before in
     let start = emptied .before .before .before .before .before .before in (
       search needs,
-      starting-next (start .pre .0) (emptied .empty .ensures) (start .pre .1 .0) (start .args .limit) (start .args .bound)
+      starting-next (start .pre .0) (emptied .empty .ensures) (start .pre .1 .0) (start .args .bounds .limit) (start .args .bounds .size)
           (turn .loop .x) (turn .loop .inv .1) (after .enter-around .ensures),
     )
 
@@ -60,7 +60,7 @@ returns c =
     let turn = c .before in
     let emptied = turn .before .before .before in
     let start = emptied .before .before .before .before .before .before in
-    starting-all (start .pre .0) (emptied .empty .ensures) (start .pre .1 .0) (start .args .limit) (start .args .bound)
+    starting-all (start .pre .0) (emptied .empty .ensures) (start .pre .1 .0) (start .args .bounds .limit) (start .args .bounds .size)
     (turn .loop .x) (turn .loop .inv .1) (search needs)
 
 pub enter-start-spec : {M : Type 1} → statement M

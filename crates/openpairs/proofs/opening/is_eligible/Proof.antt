@@ -13,7 +13,7 @@ returns c =
     let goes = c .before in
     let stays = goes .before in
     let given = stays .before .before .before .before .args in
-    c .pair-eligible .ensures ∙ ap₂ (eligible (given .limit) (given .bound)) (stays .vertex-at .ensures) (goes .vertex-at2 .ensures)
+    c .pair-eligible .ensures ∙ ap₂ (eligible (given .bounds .limit) (given .bounds .size)) (stays .vertex-at .ensures) (goes .vertex-at2 .ensures)
 
 pub is-eligible-spec : {M : Type 1} → statement M
 is-eligible-spec = tie.close (tie.spec (λ c κs. search needs) (λ c κs. search needs) (λ c κs. search needs) returns)

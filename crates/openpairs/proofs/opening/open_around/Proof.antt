@@ -10,7 +10,7 @@ open-listed-requires : tie.Need-open-listed-requires
 open-listed-requires c κs =
     let listed = c .before .before .before in
     let start = listed .before .before .before .before .before in
-    listed-ready (listed .list-around .ensures) (start .pre .1 .0) (start .args .p .now) (start .args .q .now) (start .args .limit) (start .args .bound)
+    listed-ready (listed .list-around .ensures) (start .pre .1 .0) (start .args .p .now) (start .args .q .now) (start .args .bounds .limit) (start .args .bounds .size)
     (start .pre .0) (start .pre .1 .1 .0) (start .pre .1 .1 .1 .0) (start .pre .1 .1 .1 .1)
 
 returns : tie.Need-returns
@@ -18,7 +18,7 @@ returns c =
     let opened = c .before .before in
     let listed = opened .before .before .before .before in
     let start = listed .before .before .before .before .before in
-    added (listed .list-around .ensures) (start .pre .1 .0) (start .args .p .now) (start .args .q .now) (start .args .limit) (start .args .bound)
+    added (listed .list-around .ensures) (start .pre .1 .0) (start .args .p .now) (start .args .q .now) (start .args .bounds .limit) (start .args .bounds .size)
     (omega (arith, start .pre .1 .1 .1 .1)) (opened .open-listed .ensures)
 
 pub open-around-spec : {M : Type 1} → statement M

@@ -9,10 +9,10 @@ use Rattle.openpairs.proofs.opening.open_start.Statement.{statement}
 use Rattle.openpairs.proofs.opening.open_start.Tie as tie
 
 abbrev Inv-loop : tie.InvT-loop
-Inv-loop w₀ p q v f limit bound n₀ x₀ w n x = (x ≤ v) × Starting v f w₀ p q limit bound w n x
+Inv-loop w₀ p q v f bounds n₀ x₀ w n x = (x ≤ v) × Starting v f w₀ p q (bounds .limit) (bounds .size) w n x
 
 abbrev μ-loop : tie.MeasureT-loop
-μ-loop w₀ p q v f limit bound n₀ x₀ w n x = v - x
+μ-loop w₀ p q v f bounds n₀ x₀ w n x = v - x
 
 loop-holds : tie.Need-loop-holds Inv-loop μ-loop
 loop-holds c = (search needs, starting-none)

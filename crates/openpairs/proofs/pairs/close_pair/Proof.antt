@@ -14,7 +14,7 @@ returns c =
     closing (search needs) (search needs) (search needs)
     (pairOf (read .keep-at .result) (removed .remove-at .result))
     (pair-path (read .keep-at .ensures) (removed .remove-at .ensures))
-    (c .before .before .push-pair .ensures)
+    (c .before .before .set-pair .ensures)
 
 pub close-pair-spec : {M : Type 1} → statement M
 close-pair-spec =

@@ -37,7 +37,7 @@ loop-again c =
     let turn = tested .before .before .before .before .before .before in (
       search needs,
       dropping-kept (turn .loop .inv .1) (search needs) (read tested) (here tested) (search needs)
-          (sym (tested .is-apart .ensures) ∙ c .before .before .before .before .if1 .taken) (c .before .before .push-pair .ensures),
+          (sym (tested .is-apart .ensures) ∙ c .before .before .before .before .if1 .taken) (c .before .before .set-pair .ensures),
     )
 
 loop-again-2 : tie.Need-loop-again-2 Inv-loop μ-loop

@@ -17,7 +17,7 @@ returns c =
     ∙ c .order .ensures
     ∙ ap floatKey
     (c .before .pair-cost .ensures
-    ∙ ap₂ (pairCost (stays .before .before .before .before .args .bound)) (stays .vertex-at .ensures) (goes .vertex-at2 .ensures))
+    ∙ ap₂ (pairCost (stays .before .before .before .before .args .bounds .size)) (stays .vertex-at .ensures) (goes .vertex-at2 .ensures))
 
 pub key-of-spec : {M : Type 1} → statement M
 key-of-spec =

@@ -8,10 +8,10 @@ use Rattle.openpairs.proofs.pairs.least_pair.Statement.{statement}
 use Rattle.openpairs.proofs.pairs.least_pair.Tie as tie
 
 abbrev Inv-loop : tie.InvT-loop
-Inv-loop w p q v f n bound least₀ i₀ least i = (i ≤ n) × Leading v f w p q bound least i
+Inv-loop w p q v f n bounds least₀ i₀ least i = (i ≤ n) × Leading v f w p q (bounds .size) least i
 
 abbrev μ-loop : tie.MeasureT-loop
-μ-loop w p q v f n bound least₀ i₀ least i = n - i
+μ-loop w p q v f n bounds least₀ i₀ least i = n - i
 
 ranked-at-requires : tie.Need-ranked-at-requires Inv-loop μ-loop
 ranked-at-requires c κs =

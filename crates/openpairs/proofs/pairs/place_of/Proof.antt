@@ -11,7 +11,7 @@ returns c =
     let goes = c .before in
     let stays = goes .before in
     c .pair-place .ensures
-    ∙ ap₂ (pairPlace (stays .before .before .before .before .args .bound)) (stays .vertex-at .ensures) (goes .vertex-at2 .ensures)
+    ∙ ap₂ (pairPlace (stays .before .before .before .before .args .bounds .size)) (stays .vertex-at .ensures) (goes .vertex-at2 .ensures)
 
 pub place-of-spec : {M : Type 1} → statement M
 place-of-spec = tie.close (tie.spec (λ c κs. search needs) (λ c κs. search needs) (λ c κs. search needs) returns)

@@ -11,7 +11,7 @@ use Rattle.openpairs.proofs.pairs.ranked_at.Tie as tie
 returns : tie.Need-returns
 returns c =
     let given = c .before .before .before .before .before .before .args in
-    ranked-is (given .v) (given .f) (given .w .now) (given .p .now) (given .q .now) (given .bound) (given .i) (c .before .before .keep-at .ensures) (c .before .remove-at .ensures)
+    ranked-is (given .v) (given .f) (given .w .now) (given .p .now) (given .q .now) (given .bounds .size) (given .i) (c .before .before .keep-at .ensures) (c .before .remove-at .ensures)
     (toZ-ofZ w64 (c .key-of .result) (record { sfits = c .key-of .ok }) ∙ c .key-of .ensures)
 
 pub ranked-at-spec : {M : Type 1} → statement M

@@ -1,6 +1,6 @@
 -- `queue::order::comes_before` meets its contract: each test decides by one law of the order.
 -- Assumes nothing.
-use Prim.Native.Nat.{ℕ, _+_, _*_, _^_, _<_}
+use Prim.Native.Nat.{ℕ, _+_, _^_, _<_}
 use native.Mathlib.Nat.{le-of-lt}
 use native.Mathlib.Omega.{arith}
 use mathlib.Core.Path.{_≡_, sym, ap₂, _∙_}
@@ -18,6 +18,7 @@ use Rattle.openpairs.proofs.RankLaws.{Sized, keyTest, same-keys, first-by-key, 
 use Rattle.queue.specs.Contracts.Ranks.{rankedIn, rankIn}
 use Rattle.queue.proofs.order.comes_before.Statement.{statement}
 use Rattle.queue.proofs.order.comes_before.Tie as tie
+use Rattle.memory.specs.Layout.{keepsFrom, removesFrom}
 
 -- the test of two keys, on the bits that the machine holds them in
 abbrev tested : ℤ → ℤ → Bool
@@ -34,8 +35,8 @@ ranked c s = rankedIn (c .args .v) (c .args .f) (c .args .w .now) (c .args .q .n
 sized : (c : tie.After-shared-slice-known) (s : ℕ) {key : ℤ} → key ≡ ranked (c .before) s .key → mag key < 2 ^ 63 → Sized (ranked (c .before) s)
 sized c s same fits =
     let given = c .before .args in
-    let keep = c .shared-slice-known .given (7 * given .f + 4 * given .v + s) .fits in
-    let remove = c .shared-slice-known .given (10 * given .f + 4 * given .v + s) .fits in
+    let keep = c .shared-slice-known .given (keepsFrom (given .v) (given .f) + s) .fits in
+    let remove = c .shared-slice-known .given (removesFrom (given .v) (given .f) + s) .fits in
     record { key-fits = rw same at fits; keep-fits = omega arith; remove-fits = omega arith }
 
 a-sized : (c : tie.After-key-in2) → Sized (ranked (start c) (start c .args .a))

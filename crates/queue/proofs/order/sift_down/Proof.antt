@@ -26,8 +26,8 @@ doubled c =
     let room = slotted .room in
     omega (arith, slotted .few, room .faces-few)
 
-first-of-requires : tie.Need-first-of-requires Inv-loop μ-loop
-first-of-requires c κs =
+lesser-of-requires : tie.Need-lesser-of-requires Inv-loop μ-loop
+lesser-of-requires c κs =
     let turn = c .before .before .loop in
     (turn .inv .0 .slotted, c .before .loop-test .taken)
 
@@ -41,24 +41,24 @@ abbrev places : tie.At-loop Inv-loop μ-loop → ℕ
 places c = c .before .before .before .args .n
 
 -- the first of the place and the left one under it
-left : (c : tie.After-first-of Inv-loop μ-loop) →
+left : (c : tie.After-lesser-of Inv-loop μ-loop) →
     let turn = c .before .before .before in
-    Lower (ranks turn) (places turn) (turn .loop .at) (2 * turn .loop .at + 1) (c .first-of .result)
-left c = first-lower (c .before .before .loop-test .taken) (c .first-of .ensures)
+    Lower (ranks turn) (places turn) (turn .loop .at) (2 * turn .loop .at + 1) (c .lesser-of .result)
+left c = first-lower (c .before .before .loop-test .taken) (c .lesser-of .ensures)
 
-first-of-requires-2 : tie.Need-first-of-requires-2 Inv-loop μ-loop
-first-of-requires-2 c κs =
+lesser-of-requires-2 : tie.Need-lesser-of-requires-2 Inv-loop μ-loop
+lesser-of-requires-2 c κs =
     let turn = c .before .before .before .before .loop in
     (turn .inv .0 .slotted, left (c .before) .within)
 
 -- and of those and the right one
-lowest : (c : tie.After-first-of2 Inv-loop μ-loop) →
+lowest : (c : tie.After-lesser-of2 Inv-loop μ-loop) →
     let turn = c .before .before .before .before .before in
-    Lowest (ranks turn) (places turn) (turn .loop .at) (c .first-of2 .result)
+    Lowest (ranks turn) (places turn) (turn .loop .at) (c .lesser-of2 .result)
 lowest c =
     let turn = c .before .before .before .before .before in
     let first = left (c .before .before) in
-    lowest-found first (first-lower {r = ranks turn} (first .within) (c .first-of2 .ensures))
+    lowest-found first (first-lower {r = ranks turn} (first .within) (c .lesser-of2 .ensures))
 
 same-length : tie.Need-same-length Inv-loop μ-loop
 same-length c = c .before .before .before .before .before .before .loop .inv .0 .sifted .but .same-length
@@ -68,8 +68,8 @@ returns c =
     let turn = c .before .before .before .before .before .before .loop in
     (turn .inv .0 .sifted, sinking-stop (turn .inv .1) (lowest (c .before)) (c .if1 .taken))
 
-swap-requires : tie.Need-swap-requires Inv-loop μ-loop
-swap-requires c κs =
+swap-slots-requires : tie.Need-swap-slots-requires Inv-loop μ-loop
+swap-slots-requires c κs =
     let found = c .before .before in
     let test = found .before .before .before .before in
     let slotted = test .before .loop .inv .0 .slotted in
@@ -91,9 +91,9 @@ loop-again c =
     let turn = test .before .loop in
     let under = lowest found .under-at (tested .if1 .left) in
     let inside = test .loop-test .taken in (
-      sifting-swap (turn .inv .0) (turn .at) (found .first-of2 .result) inside (lowest found .within) (swapped .swap .ensures),
+      sifting-swap (turn .inv .0) (turn .at) (found .lesser-of2 .result) inside (lowest found .within) (swapped .swap-slots .ensures),
       sinking-turn (turn .inv .1) (lowest found) (under .0) (under .1)
-          (swapped-ranks (turn .inv .0 .slotted) (turn .at) (found .first-of2 .result) inside (lowest found .within) (swapped .swap .ensures)),
+          (swapped-ranks (turn .inv .0 .slotted) (turn .at) (found .lesser-of2 .result) inside (lowest found .within) (swapped .swap-slots .ensures)),
     )
 
 same-length-2 : tie.Need-same-length-2 Inv-loop μ-loop
@@ -113,13 +113,13 @@ sift-down-spec =
     loop-holds
     (λ c. omega (arith, doubled (c .before)))
     (λ c. omega (arith, doubled (c .before)))
-    first-of-requires
+    lesser-of-requires
     (λ c. omega (arith, doubled (c .before .before .before)))
     (λ c. omega (arith, doubled (c .before .before .before)))
-    first-of-requires-2
+    lesser-of-requires-2
     same-length
     returns
-    swap-requires
+    swap-slots-requires
     loop-less
     loop-again
     same-length-2

@@ -35,8 +35,8 @@ returns c =
     let turn = c .before .before .before .before .loop in
     (turn .inv .0 .sifted, rising-stop (turn .inv .1) (c .before .place-before .ensures) (c .if1 .taken))
 
-swap-requires : tie.Need-swap-requires Inv-loop μ-loop
-swap-requires c κs =
+swap-slots-requires : tie.Need-swap-slots-requires Inv-loop μ-loop
+swap-slots-requires c κs =
     let turn = c .before .before .before .before .before .loop in
     let slotted = turn .inv .0 .slotted in
     let inside = turn .inv .1 .within in
@@ -51,9 +51,9 @@ loop-again c =
     let slotted = turn .inv .0 .slotted in
     let inside = turn .inv .1 .within in
     let test = looked .before .before .loop-test .taken in (
-      sifting-swap (turn .inv .0) (turn .at) (over (turn .at)) inside (omega arith) (swapped .swap .ensures),
+      sifting-swap (turn .inv .0) (turn .at) (over (turn .at)) inside (omega arith) (swapped .swap-slots .ensures),
       rising-turn (turn .inv .1) (omega arith) (looked .place-before .ensures) (tested .if1 .left)
-          (swapped-ranks slotted (turn .at) (over (turn .at)) inside (omega arith) (swapped .swap .ensures)),
+          (swapped-ranks slotted (turn .at) (over (turn .at)) inside (omega arith) (swapped .swap-slots .ensures)),
     )
 
 same-length-2 : tie.Need-same-length-2 Inv-loop μ-loop
@@ -75,7 +75,7 @@ sift-up-spec =
     place-before-requires
     same-length
     returns
-    swap-requires
+    swap-slots-requires
     (λ c. search needs)
     loop-again
     same-length-2

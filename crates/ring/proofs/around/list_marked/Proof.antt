@@ -1,10 +1,8 @@
 -- `ring::around::list_marked` meets its contract. The loop's invariant: the marks of the points of the faces passed are off, and these points listed.
 -- The measure is how many faces are left. Assumes nothing.
 use Prim.Native.Nat.{_≤_, _-_}
-use mathlib.Core.Path.{ap, _∙_}
 use borrow.Author.Needs.{needs}
-use Rattle.walk.specs.Faces.{proper}
-use Rattle.ring.proofs.FrameLaws.{framed-list, face-listed}
+use Rattle.ring.proofs.FrameLaws.{framed-list, read-listed, read-proper}
 use Rattle.ring.proofs.TakeLaws.{Taking, taking-none, taking-next, taking-all, ready-after}
 use Rattle.ring.proofs.around.list_marked.Statement.{statement}
 use Rattle.ring.proofs.around.list_marked.Tie as tie
@@ -31,7 +29,7 @@ list-face-requires c κs =
     let start = turn .before .before in
     let done = turn .loop .inv .1 .so-far in (
       ready-after (start .pre .0) done,
-      ap (proper (start .args .v)) (c .before .face-near .ensures) ∙ framed-list (done .frame) (start .pre .1 .0) (start .pre .1 .1) (turn .loop .i) (search needs) .1,
+      read-proper (done .frame) (start .pre .1 .0) (start .pre .1 .1) (search needs) (c .before .face-near .ensures),
     )
 
 loop-again : tie.Need-loop-again Inv-loop μ-loop
@@ -42,7 +40,7 @@ loop-again c =
     let done = turn .loop .inv .1 in (
       search needs,
       taking-next done
-          (read .face-near .ensures ∙ face-listed (done .so-far .frame) (start .pre .1 .0) (start .pre .1 .1) (turn .loop .i) (search needs))
+          (read-listed (done .so-far .frame) (start .pre .1 .0) (start .pre .1 .1) (search needs) (read .face-near .ensures))
           (c .before .before .list-face .ensures),
     )
 

@@ -3,7 +3,7 @@
 use borrow.Author.Needs.{needs}
 use Rattle.walk.proofs.FaceLaws.{Corners, corners}
 use Rattle.ring.specs.Contracts.Wanting.{wanted}
-use Rattle.ring.proofs.WantedLaws.{at-corners, marks-then, marks-as}
+use Rattle.ring.proofs.WantedLaws.{marks-face}
 use Rattle.ring.proofs.around.mark_face.Statement.{statement}
 use Rattle.ring.proofs.around.mark_face.Tie as tie
 
@@ -26,10 +26,9 @@ returns c =
     let second = third .before .before .before .before in
     let first = second .before .before .before .before in
     let given = first .before .before .before .args in
-    marks-as (λ u. at-corners (λ y. wanted (given .rising) (given .x) y (given .face)) u (given .face))
-    (marks-then (marks-then (first .mark-corner .ensures) (second .mark-corner2 .ensures)) (third .mark-corner3 .ensures))
+    marks-face (λ y. wanted (given .rising) (given .x) y (given .face)) (given .face) (first .mark-corner .ensures) (second .mark-corner2 .ensures)
+    (third .mark-corner3 .ensures)
 
 pub mark-face-spec : {M : Type 1} → statement M
 mark-face-spec =
-    tie.close
-    (tie.spec mark-corner-requires mark-corner-requires-2 mark-corner-requires-3 (λ c. search needs) returns)
+    tie.close (tie.spec mark-corner-requires mark-corner-requires-2 mark-corner-requires-3 (λ c. search needs) returns)

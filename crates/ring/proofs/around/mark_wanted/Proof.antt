@@ -1,13 +1,12 @@
 -- `ring::around::mark_wanted` meets its contract. The loop's invariant: the points that the faces passed ask for are marked.
 -- The measure is how many faces are left. Assumes nothing.
 use Prim.Native.Nat.{_≤_, _-_}
-use mathlib.Core.Path.{ap, _∙_}
 use mathlib.Core.Bool.{_&&_}
 use borrow.Author.Needs.{needs}
-use Rattle.walk.specs.Faces.{holds, proper}
+use Rattle.walk.specs.Faces.{holds}
 use Rattle.ring.specs.Contracts.Wanting.{wanted}
 use Rattle.ring.specs.Contracts.Taking.{Framed}
-use Rattle.ring.proofs.FrameLaws.{framed-marks, framed-room, framed-list, face-listed}
+use Rattle.ring.proofs.FrameLaws.{framed-marks, framed-room, framed-list, read-listed, read-proper}
 use Rattle.ring.proofs.WantedLaws.{Marking, marking-none, marking-next, marking-all}
 use Rattle.ring.proofs.around.mark_wanted.Statement.{statement}
 use Rattle.ring.proofs.around.mark_wanted.Tie as tie
@@ -36,7 +35,7 @@ mark-face-requires c κs =
     let turn = c .before .before .before .before in
     let start = turn .before .before in (
       framed-room (framed turn) (start .pre .0),
-      ap (proper (start .args .v)) (c .before .face-near .ensures) ∙ framed-list (framed turn) (start .pre .1 .0) (start .pre .1 .1) (turn .loop .i) (search needs) .1,
+      read-proper (framed turn) (start .pre .1 .0) (start .pre .1 .1) (search needs) (c .before .face-near .ensures),
     )
 
 loop-again : tie.Need-loop-again Inv-loop μ-loop
@@ -46,7 +45,7 @@ loop-again c =
     let start = turn .before .before in (
       search needs,
       marking-next (turn .loop .inv .1)
-          (read .face-near .ensures ∙ face-listed (framed turn) (start .pre .1 .0) (start .pre .1 .1) (turn .loop .i) (search needs))
+          (read-listed (framed turn) (start .pre .1 .0) (start .pre .1 .1) (search needs) (read .face-near .ensures))
           (c .before .before .mark-face .ensures),
     )
 

@@ -5,6 +5,7 @@ use native.Mathlib.Omega.{arith}
 use mathlib.Core.Bool.{Bool}
 use borrow.Author.Needs.{needs}
 use Rattle.ring.specs.Contracts.Marking.{single}
+use Rattle.mesh.proofs.FaceCorners.{Points}
 use Rattle.ring.proofs.MarkLaws.{points-read}
 use Rattle.ring.proofs.BorderLaws.{first-passes, second-passes, third-decides}
 use Rattle.ring.proofs.borders.face_has_single.Statement.{statement}
@@ -14,11 +15,12 @@ use Rattle.ring.proofs.borders.face_has_single.Tie as tie
 abbrev passed : tie.Start → ℕ → Bool
 passed c = single (c .args .v) (c .args .f) (c .args .w .now) (c .args .x)
 
-face-in-requires : tie.Need-face-in-requires
-face-in-requires c κs = search needs
+-- the points of the face that was read
+points : (c : tie.After-face-in) → Points (c .before .before .args .v) (c .face-in .result)
+points c = points-read _ (c .face-in .ensures) (c .before .before .pre .1 .1)
 
 is-single-requires : tie.Need-is-single-requires
-is-single-requires c κs = omega (arith, points-read _ (c .face-in .ensures) (c .before .before .pre .1 .1))
+is-single-requires c κs = omega (arith, points c)
 
 returns : tie.Need-returns
 returns c =
@@ -26,9 +28,7 @@ returns c =
     first-passes (passed (read .before .before)) (read .face-in .ensures) (c .before .is-single .ensures) (c .if1 .taken)
 
 is-single-requires-2 : tie.Need-is-single-requires-2
-is-single-requires-2 c κs =
-    let read = c .before .before in
-    omega (arith, points-read _ (read .face-in .ensures) (read .before .before .pre .1 .1))
+is-single-requires-2 c κs = omega (arith, points (c .before .before))
 
 returns-2 : tie.Need-returns-2
 returns-2 c =
@@ -39,9 +39,7 @@ returns-2 c =
     (second .is-single2 .ensures) (c .if2 .taken)
 
 is-single-requires-3 : tie.Need-is-single-requires-3
-is-single-requires-3 c κs =
-    let read = c .before .before .before .before in
-    omega (arith, points-read _ (read .face-in .ensures) (read .before .before .pre .1 .1))
+is-single-requires-3 c κs = omega (arith, points (c .before .before .before .before))
 
 returns-3 : tie.Need-returns-3
 returns-3 c =
@@ -53,12 +51,4 @@ returns-3 c =
 
 pub face-has-single-spec : {M : Type 1} → statement M
 face-has-single-spec =
-    tie.close
-    (tie.spec
-    face-in-requires
-    is-single-requires
-    returns
-    is-single-requires-2
-    returns-2
-    is-single-requires-3
-    returns-3)
+    tie.close (tie.spec (λ c κs. search needs) is-single-requires returns is-single-requires-2 returns-2 is-single-requires-3 returns-3)

@@ -8,11 +8,8 @@ use Rattle.ring.proofs.borders.is_single.Tie as tie
 returns : tie.Need-returns
 returns c = rw (eq-eqb _ _ (c .if1 .taken))
 
-mark-at-requires : tie.Need-mark-at-requires
-mark-at-requires c κs = search needs
-
 returns-2 : tie.Need-returns-2
 returns-2 c = rw (ne-eqb _ _ (c .before .if1 .left), c .mark-at .ensures)
 
 pub is-single-spec : {M : Type 1} → statement M
-is-single-spec = tie.close (tie.spec returns mark-at-requires returns-2)
+is-single-spec = tie.close (tie.spec returns (λ c κs. search needs) returns-2)

@@ -19,22 +19,10 @@ loop-holds c = kinds-none _ (c .before .pre)
 kind-of-requires : tie.Need-kind-of-requires Inv-loop μ-loop
 kind-of-requires c κs = (c .before .before .loop .inv .tidy, c .before .loop-test .taken)
 
-set-kind-requires : tie.Need-set-kind-requires Inv-loop μ-loop
-set-kind-requires c κs = omega arith
-
-cast-n : tie.Need-cast-n Inv-loop μ-loop
-cast-n c = search needs
-
 add-n : tie.Need-add-n Inv-loop μ-loop
 add-n c =
     let turn = c .before .before .before .before .before .before .before .before in
     omega (arith, kinds-few (turn .before .loop .inv))
-
-add-x : tie.Need-add-x Inv-loop μ-loop
-add-x c = omega arith
-
-loop-less : tie.Need-loop-less Inv-loop μ-loop
-loop-less c = omega arith
 
 loop-again : tie.Need-loop-again Inv-loop μ-loop
 loop-again c =
@@ -42,9 +30,6 @@ loop-again c =
     let turn = told .before .before in
     kinds-more (turn .before .loop .inv) (turn .loop-test .taken) (told .kind-of .ensures .0) (told .kind-of .ensures .1)
     (c .before .before .set-kind .ensures)
-
-same-length : tie.Need-same-length Inv-loop μ-loop
-same-length c = omega arith
 
 returns : tie.Need-returns Inv-loop μ-loop
 returns c = kinds-all (c .before .loop .inv) (c .loop-test .left)
@@ -57,11 +42,11 @@ mark-borders-spec =
     μ-loop
     loop-holds
     kind-of-requires
-    set-kind-requires
-    cast-n
+    (λ c κs. omega arith)
+    (λ c. search needs)
     add-n
-    add-x
-    loop-less
+    (λ c. omega arith)
+    (λ c. omega arith)
     loop-again
-    same-length
+    (λ c. omega arith)
     returns)

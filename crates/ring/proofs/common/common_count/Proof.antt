@@ -23,9 +23,6 @@ clear-faces-requires c κs =
     let start = marking .before .before .before in
     may-look (start .pre .0) (start .pre .1 .0) (but-then (marking .mark-faces .ensures .but) (counting .count-faces .ensures .remarked .but))
 
-same-length : tie.Need-same-length
-same-length c = search needs
-
 returns : tie.Need-returns
 returns c =
     let counting = c .before .before .before .before .before .before in
@@ -36,5 +33,4 @@ returns c =
 
 pub common-count-spec : {M : Type 1} → statement M
 common-count-spec =
-    tie.close
-    (tie.spec mark-faces-requires count-faces-requires clear-faces-requires same-length returns)
+    tie.close (tie.spec mark-faces-requires count-faces-requires clear-faces-requires (λ c. search needs) returns)

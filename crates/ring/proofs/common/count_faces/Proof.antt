@@ -5,7 +5,7 @@ use native.Mathlib.Nat.{le-antisymm}
 use native.Mathlib.Omega.{arith}
 use Rattle.ring.specs.Contracts.Counting.{Counted}
 use Rattle.ring.specs.Contracts.Marking.{heldIn}
-use Rattle.ring.proofs.TurnLaws.{next-slot}
+use Rattle.ring.proofs.TurnLaws.{Next, next-slot}
 use Rattle.ring.proofs.CommonLaws.{counted-few, counted-none, counted-more}
 use Rattle.ring.proofs.common.count_faces.Statement.{statement}
 use Rattle.ring.proofs.common.count_faces.Tie as tie
@@ -19,40 +19,33 @@ abbrev μ-loop : tie.MeasureT-loop
 loop-holds : tie.Need-loop-holds Inv-loop μ-loop
 loop-holds c = (omega arith, counted-none _ _)
 
-slot-at-requires : tie.Need-slot-at-requires Inv-loop μ-loop
-slot-at-requires c κs = omega arith
+-- ---- the slot that is read, and the turn in which it is
+
+abbrev turn : tie.After-slot-at Inv-loop μ-loop → tie.In-loop Inv-loop μ-loop
+turn c = c .before .before
+
+abbrev start : tie.After-slot-at Inv-loop μ-loop → tie.Start Inv-loop μ-loop
+start c = turn c .before .before .before
+
+next : (c : tie.After-slot-at Inv-loop μ-loop) →
+    let given = start c .args in
+    Next (given .v) (given .f) (given .w .now) (turn c .before .loop .w) (given .base) (turn c .before .loop .i) (c .slot-at .result)
+next c = next-slot (start c .pre .1) (turn c .before .loop .inv .1 .remarked .but) (turn c .loop-test .taken) (c .slot-at .ensures)
+
+-- ---- the needs
 
 count-face-requires : tie.Need-count-face-requires Inv-loop μ-loop
-count-face-requires c κs =
-    let read = c .before in
-    let turn = read .before .before in
-    let start = turn .before .before .before in
-    let done = turn .before .loop .inv .1 in
-    let next = next-slot (start .pre .1) (done .remarked .but) (turn .loop-test .taken) (read .slot-at .ensures) in
-    (omega arith, (next .inside, next .face-proper))
+count-face-requires c κs = (omega arith, (next (c .before) .inside, next (c .before) .face-proper))
 
 add-r : tie.Need-add-r Inv-loop μ-loop
 add-r c =
     let done = c .before .before .before .before .before .before .before in
     omega (arith, done .before .before .pre .0, counted-few (done .loop .inv .1), counted-few (c .before .before .count-face .ensures))
 
-add-i : tie.Need-add-i Inv-loop μ-loop
-add-i c = omega arith
-
-loop-less : tie.Need-loop-less Inv-loop μ-loop
-loop-less c = omega arith
-
 loop-again : tie.Need-loop-again Inv-loop μ-loop
 loop-again c =
     let read = c .before .before .before .before in
-    let turn = read .before .before in
-    let start = turn .before .before .before in
-    let done = turn .before .loop .inv .1 in
-    let next = next-slot (start .pre .1) (done .remarked .but) (turn .loop-test .taken) (read .slot-at .ensures) in
-    (omega arith, counted-more next done (c .before .before .count-face .ensures))
-
-same-length : tie.Need-same-length Inv-loop μ-loop
-same-length c = omega arith
+    (omega arith, counted-more (next read) (turn read .before .loop .inv .1) (c .before .before .count-face .ensures))
 
 returns : tie.Need-returns Inv-loop μ-loop
 returns c = rw (le-antisymm (c .before .loop .inv .0) (c .loop-test .left)) at (c .before .loop .inv .1)
@@ -64,11 +57,11 @@ count-faces-spec =
     Inv-loop
     μ-loop
     loop-holds
-    slot-at-requires
+    (λ c κs. omega arith)
     count-face-requires
     add-r
-    add-i
-    loop-less
+    (λ c. omega arith)
+    (λ c. omega arith)
     loop-again
-    same-length
+    (λ c. omega arith)
     returns)

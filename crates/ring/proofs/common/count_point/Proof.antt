@@ -12,20 +12,8 @@ returns c = counted-keep _ _ (c .if1 .taken)
 returns-2 : tie.Need-returns-2
 returns-2 c = counted-remove _ _ (c .if2 .taken)
 
-mark-at-requires : tie.Need-mark-at-requires
-mark-at-requires c κs = search needs
-
-same-length : tie.Need-same-length
-same-length c = search needs
-
 returns-3 : tie.Need-returns-3
 returns-3 c = counted-unmarked _ _ (sym (c .before .mark-at .ensures) ∙ c .if3 .taken)
-
-clear-mark-requires : tie.Need-clear-mark-requires
-clear-mark-requires c κs = search needs
-
-same-length-2 : tie.Need-same-length-2
-same-length-2 c = search needs
 
 returns-4 : tie.Need-returns-4
 returns-4 c =
@@ -36,13 +24,4 @@ returns-4 c =
 
 pub count-point-spec : {M : Type 1} → statement M
 count-point-spec =
-    tie.close
-    (tie.spec
-    returns
-    returns-2
-    mark-at-requires
-    same-length
-    returns-3
-    clear-mark-requires
-    same-length-2
-    returns-4)
+    tie.close (tie.spec returns returns-2 (λ c κs. search needs) (λ c. search needs) returns-3 (λ c κs. search needs) (λ c. search needs) returns-4)

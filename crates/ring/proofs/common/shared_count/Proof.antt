@@ -21,9 +21,6 @@ abbrev μ-loop : tie.MeasureT-loop
 loop-holds : tie.Need-loop-holds Inv-loop μ-loop
 loop-holds c = (omega arith, tally-none _ _ _)
 
-slot-at-requires : tie.Need-slot-at-requires Inv-loop μ-loop
-slot-at-requires c κs = omega arith
-
 face-in-requires : tie.Need-face-in-requires Inv-loop μ-loop
 face-in-requires c κs =
     let turn = c .before in
@@ -31,17 +28,8 @@ face-in-requires c κs =
     let a = start .args in
     omega (arith, slot-small (a .f) (a .w .now) (a .base) (a .n) (start .pre .1 .1) (turn .before .loop .i) (turn .loop-test .taken))
 
-face-holds-requires : tie.Need-face-holds-requires Inv-loop μ-loop
-face-holds-requires c κs = search needs
-
 add-r : tie.Need-add-r Inv-loop μ-loop
 add-r c = omega (arith, tally-few (c .before .before .before .before .before .loop .inv .1))
-
-add-i : tie.Need-add-i Inv-loop μ-loop
-add-i c = omega arith
-
-loop-less : tie.Need-loop-less Inv-loop μ-loop
-loop-less c = omega arith
 
 loop-again : tie.Need-loop-again Inv-loop μ-loop
 loop-again c =
@@ -64,11 +52,11 @@ shared-count-spec =
     Inv-loop
     μ-loop
     loop-holds
-    slot-at-requires
+    (λ c κs. omega arith)
     face-in-requires
-    face-holds-requires
+    (λ c κs. search needs)
     add-r
-    add-i
-    loop-less
+    (λ c. omega arith)
+    (λ c. omega arith)
     loop-again
     returns)

@@ -5,18 +5,6 @@ use Rattle.ring.proofs.MarkLaws.{remarked-add}
 use Rattle.ring.proofs.marking.add_mark.Statement.{statement}
 use Rattle.ring.proofs.marking.add_mark.Tie as tie
 
-mark-at-requires : tie.Need-mark-at-requires
-mark-at-requires c κs = search needs
-
-add-set-mark : tie.Need-add-set-mark
-add-set-mark c = search needs
-
-set-mark-requires : tie.Need-set-mark-requires
-set-mark-requires c κs = search needs
-
-same-length : tie.Need-same-length
-same-length c = search needs
-
 returns : tie.Need-returns
 returns c =
     rw (c .before .before .set-mark .ensures, c .before .before .before .before .mark-at .ensures)
@@ -24,4 +12,4 @@ returns c =
 
 pub add-mark-spec : {M : Type 1} → statement M
 add-mark-spec =
-    tie.close (tie.spec mark-at-requires add-set-mark set-mark-requires same-length returns)
+    tie.close (tie.spec (λ c κs. search needs) (λ c. search needs) (λ c κs. search needs) (λ c. search needs) returns)

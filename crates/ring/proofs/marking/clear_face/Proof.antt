@@ -2,30 +2,14 @@
 -- Assumes nothing.
 use native.Mathlib.Omega.{arith}
 use borrow.Author.Needs.{needs}
+use Rattle.mesh.proofs.FaceCorners.{Points}
 use Rattle.ring.proofs.MarkLaws.{points-read, face-cleared}
 use Rattle.ring.proofs.marking.clear_face.Statement.{statement}
 use Rattle.ring.proofs.marking.clear_face.Tie as tie
 
-face-in-requires : tie.Need-face-in-requires
-face-in-requires c κs = search needs
-
-clear-mark-requires : tie.Need-clear-mark-requires
-clear-mark-requires c κs =
-    let read = c .before in
-    omega (arith, points-read _ (read .face-in .ensures) (read .before .before .before .pre .1 .1))
-
-clear-mark-requires-2 : tie.Need-clear-mark-requires-2
-clear-mark-requires-2 c κs =
-    let read = c .before .before .before .before .before in
-    omega (arith, points-read _ (read .face-in .ensures) (read .before .before .before .pre .1 .1))
-
-clear-mark-requires-3 : tie.Need-clear-mark-requires-3
-clear-mark-requires-3 c κs =
-    let read = c .before .before .before .before .before .before .before .before .before in
-    omega (arith, points-read _ (read .face-in .ensures) (read .before .before .before .pre .1 .1))
-
-same-length : tie.Need-same-length
-same-length c = search needs
+-- the points of the face that was read
+points : (c : tie.After-face-in) → Points (c .before .before .before .args .v) (c .face-in .result)
+points c = points-read _ (c .face-in .ensures) (c .before .before .before .pre .1 .1)
 
 returns : tie.Need-returns
 returns c =
@@ -39,9 +23,9 @@ pub clear-face-spec : {M : Type 1} → statement M
 clear-face-spec =
     tie.close
     (tie.spec
-    face-in-requires
-    clear-mark-requires
-    clear-mark-requires-2
-    clear-mark-requires-3
-    same-length
+    (λ c κs. search needs)
+    (λ c κs. omega (arith, points (c .before)))
+    (λ c κs. omega (arith, points (c .before .before .before .before .before)))
+    (λ c κs. omega (arith, points (c .before .before .before .before .before .before .before .before .before)))
+    (λ c. search needs)
     returns)

@@ -5,14 +5,8 @@ use Rattle.ring.proofs.MarkLaws.{remarked-set}
 use Rattle.ring.proofs.marking.clear_mark.Statement.{statement}
 use Rattle.ring.proofs.marking.clear_mark.Tie as tie
 
-set-mark-requires : tie.Need-set-mark-requires
-set-mark-requires c κs = search needs
-
-same-length : tie.Need-same-length
-same-length c = search needs
-
 returns : tie.Need-returns
 returns c = rw (c .before .before .set-mark .ensures) (remarked-set _ 0 (c .before .before .before .before .before .pre .0) (search needs))
 
 pub clear-mark-spec : {M : Type 1} → statement M
-clear-mark-spec = tie.close (tie.spec set-mark-requires same-length returns)
+clear-mark-spec = tie.close (tie.spec (λ c κs. search needs) (λ c. search needs) returns)

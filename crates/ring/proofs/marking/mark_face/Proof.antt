@@ -2,18 +2,20 @@
 -- Assumes nothing.
 use native.Mathlib.Omega.{arith}
 use borrow.Author.Needs.{needs}
+use Rattle.mesh.proofs.FaceCorners.{Points}
 use Rattle.ring.proofs.MarkLaws.{remarked-most, points-read, face-marked}
 use Rattle.ring.proofs.marking.mark_face.Statement.{statement}
 use Rattle.ring.proofs.marking.mark_face.Tie as tie
 
-face-in-requires : tie.Need-face-in-requires
-face-in-requires c κs = search needs
+-- the points of the face that was read
+points : (c : tie.After-face-in) → Points (c .before .before .before .args .v) (c .face-in .result)
+points c = points-read _ (c .face-in .ensures) (c .before .before .before .pre .1 .1 .0)
 
 add-mark-requires : tie.Need-add-mark-requires
 add-mark-requires c κs =
     let read = c .before in
     let start = read .before .before .before in
-    let p = points-read _ (read .face-in .ensures) (start .pre .1 .1 .0) in
+    let p = points read in
     omega (arith, start .pre .1 .1 .1 _ (p .a-below))
 
 add-mark-requires-2 : tie.Need-add-mark-requires-2
@@ -21,7 +23,7 @@ add-mark-requires-2 c κs =
     let first = c .before .before .before in
     let read = first .before .before in
     let start = read .before .before .before in
-    let p = points-read _ (read .face-in .ensures) (start .pre .1 .1 .0) in
+    let p = points read in
     omega (arith, start .pre .1 .1 .1 _ (p .b-below), remarked-most _ (first .add-mark .ensures) _ (p .b-below))
 
 add-mark-requires-3 : tie.Need-add-mark-requires-3
@@ -30,16 +32,13 @@ add-mark-requires-3 c κs =
     let first = second .before .before .before .before in
     let read = first .before .before in
     let start = read .before .before .before in
-    let p = points-read _ (read .face-in .ensures) (start .pre .1 .1 .0) in
+    let p = points read in
     omega (
       arith,
       start .pre .1 .1 .1 _ (p .c-below),
       remarked-most _ (first .add-mark .ensures) _ (p .c-below),
       remarked-most _ (second .add-mark2 .ensures) _ (p .c-below),
     )
-
-same-length : tie.Need-same-length
-same-length c = search needs
 
 returns : tie.Need-returns
 returns c =
@@ -52,11 +51,4 @@ returns c =
 
 pub mark-face-spec : {M : Type 1} → statement M
 mark-face-spec =
-    tie.close
-    (tie.spec
-    face-in-requires
-    add-mark-requires
-    add-mark-requires-2
-    add-mark-requires-3
-    same-length
-    returns)
+    tie.close (tie.spec (λ c κs. search needs) add-mark-requires add-mark-requires-2 add-mark-requires-3 (λ c. search needs) returns)

@@ -4,7 +4,7 @@ use Prim.Native.Nat.{_≤_, _-_}
 use native.Mathlib.Nat.{le-antisymm}
 use native.Mathlib.Omega.{arith}
 use Rattle.mesh.specs.Contracts.Around.{Marked}
-use Rattle.ring.proofs.TurnLaws.{next-slot, marked-none, marked-more, marked-few}
+use Rattle.ring.proofs.TurnLaws.{Next, next-slot, marked-none, marked-more, marked-few}
 use Rattle.ring.proofs.marking.mark_faces.Statement.{statement}
 use Rattle.ring.proofs.marking.mark_faces.Tie as tie
 
@@ -17,35 +17,30 @@ abbrev μ-loop : tie.MeasureT-loop
 loop-holds : tie.Need-loop-holds Inv-loop μ-loop
 loop-holds c = (omega arith, marked-none _ _ _ _)
 
-slot-at-requires : tie.Need-slot-at-requires Inv-loop μ-loop
-slot-at-requires c κs = omega arith
+-- ---- the slot that is read, and the turn in which it is
+
+abbrev turn : tie.After-slot-at Inv-loop μ-loop → tie.In-loop Inv-loop μ-loop
+turn c = c .before .before
+
+abbrev start : tie.After-slot-at Inv-loop μ-loop → tie.Start Inv-loop μ-loop
+start c = turn c .before .before .before
+
+next : (c : tie.After-slot-at Inv-loop μ-loop) →
+    let given = start c .args in
+    Next (given .v) (given .f) (given .w .now) (turn c .before .loop .w) (given .base) (turn c .before .loop .i) (c .slot-at .result)
+next c = next-slot (start c .pre .1 .1 .0) (turn c .before .loop .inv .1 .but) (turn c .loop-test .taken) (c .slot-at .ensures)
+
+-- ---- the needs
 
 mark-face-requires : tie.Need-mark-face-requires Inv-loop μ-loop
 mark-face-requires c κs =
     let read = c .before in
-    let turn = read .before .before in
-    let start = turn .before .before .before in
-    let done = turn .before .loop .inv .1 in
-    let next = next-slot (start .pre .1 .1 .0) (done .but) (turn .loop-test .taken) (read .slot-at .ensures) in
-    (omega arith, (next .inside, (next .face-proper, marked-few (start .pre .1 .0) (omega arith) done)))
-
-add-i : tie.Need-add-i Inv-loop μ-loop
-add-i c = omega arith
-
-loop-less : tie.Need-loop-less Inv-loop μ-loop
-loop-less c = omega arith
+    (omega arith, (next read .inside, (next read .face-proper, marked-few (start read .pre .1 .0) (omega arith) (turn read .before .loop .inv .1))))
 
 loop-again : tie.Need-loop-again Inv-loop μ-loop
 loop-again c =
     let read = c .before .before .before .before in
-    let turn = read .before .before in
-    let start = turn .before .before .before in
-    let done = turn .before .loop .inv .1 in
-    let next = next-slot (start .pre .1 .1 .0) (done .but) (turn .loop-test .taken) (read .slot-at .ensures) in
-    (omega arith, marked-more next done (c .before .before .mark-face .ensures))
-
-same-length : tie.Need-same-length Inv-loop μ-loop
-same-length c = omega arith
+    (omega arith, marked-more (next read) (turn read .before .loop .inv .1) (c .before .before .mark-face .ensures))
 
 returns : tie.Need-returns Inv-loop μ-loop
 returns c = rw (le-antisymm (c .before .loop .inv .0) (c .loop-test .left)) at (c .before .loop .inv .1)
@@ -57,10 +52,10 @@ mark-faces-spec =
     Inv-loop
     μ-loop
     loop-holds
-    slot-at-requires
+    (λ c κs. omega arith)
     mark-face-requires
-    add-i
-    loop-less
+    (λ c. omega arith)
+    (λ c. omega arith)
     loop-again
-    same-length
+    (λ c. omega arith)
     returns)

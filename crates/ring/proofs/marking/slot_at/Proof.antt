@@ -6,21 +6,9 @@ use borrow.Author.Needs.{needs}
 use Rattle.ring.proofs.marking.slot_at.Statement.{statement}
 use Rattle.ring.proofs.marking.slot_at.Tie as tie
 
-add-result : tie.Need-add-result
-add-result c = search needs
-
-mul-result : tie.Need-mul-result
-mul-result c = search needs
-
-shared-slice-read-result : tie.Need-shared-slice-read-result
-shared-slice-read-result c = search needs
-
 cast-result : tie.Need-cast-result
 cast-result c = omega (arith, c .shared-slice-known .given (c .before .args .base + c .before .args .i))
 
-returns : tie.Need-returns
-returns c = search needs
-
 pub slot-at-spec : {M : Type 1} → statement M
 slot-at-spec =
-    tie.close (tie.spec add-result mul-result shared-slice-read-result cast-result returns)
+    tie.close (tie.spec (λ c. search needs) (λ c. search needs) (λ c. search needs) cast-result (λ c. search needs))

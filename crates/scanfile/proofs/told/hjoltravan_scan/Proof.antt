@@ -18,19 +18,10 @@ is-good c = sym (c .scan .given .1) ∙ c .before .before .read-scan .ensures
 is-bad : (c : tie.After-scan2) → Bad (c .scan2 .given .0 .0) (c .scan2 .given .0 .1 .0) ≡ scanOf (c .before .before .before .before .args .bytes .now)
 is-bad c = sym (c .scan2 .given .1) ∙ c .before .before .read-scan .ensures
 
-read-scan-requires : tie.Need-read-scan-requires
-read-scan-requires c κs = search needs
-
-enum-known-scan : tie.Need-enum-known-scan
-enum-known-scan c = search needs
-
 tell-good-requires : tie.Need-tell-good-requires
 tell-good-requires c κs =
     let g = good-file _ _ (sym (is-good (c .before .before))) in
-    (omega (arith, g .whole), g .points-most, g .faces-most)
-
-enum-known-scan-2 : tie.Need-enum-known-scan-2
-enum-known-scan-2 c = search needs
+    record { there = omega (arith, g .whole); points-most = g .points-most; faces-most = g .faces-most }
 
 returns : tie.Need-returns
 returns c =
@@ -47,9 +38,9 @@ pub hjoltravan-scan-spec : {M : Type 1} → statement M
 hjoltravan-scan-spec =
     tie.close
     (tie.spec
-    read-scan-requires
-    enum-known-scan
+    (λ c κs. search needs)
+    (λ c. search needs)
     tell-good-requires
-    enum-known-scan-2
+    (λ c. search needs)
     returns
     returns-2)

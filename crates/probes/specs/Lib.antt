@@ -1,0 +1,2 @@
+-- What the crate `probes` means: operations of `geometry` and `placement`, on bit patterns.
+pub mod Patterns

@@ -1,0 +1,3 @@
+-- What follows from the definitions of specs/, and is no code.
+pub mod WordLaws
+pub mod RecordLaws

@@ -1,0 +1,3 @@
+-- Records, and the numbers in their bytes.
+pub mod Words
+pub mod Records

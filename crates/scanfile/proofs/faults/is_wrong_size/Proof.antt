@@ -1,0 +1,14 @@
+-- `scanfile::faults::is_wrong_size` meets its contract: each return is a case of the definition.
+-- Assumes nothing.
+use borrow.Author.Tests.{eq-eqb, ne-eqb}
+use Rattle.scanfile.proofs.faults.is_wrong_size.Statement.{statement}
+use Rattle.scanfile.proofs.faults.is_wrong_size.Tie as tie
+
+returns : tie.Need-returns
+returns c = rw (eq-eqb _ _ (c .if1 .taken))
+
+returns-2 : tie.Need-returns-2
+returns-2 c = rw (ne-eqb _ _ (c .if1 .left))
+
+pub is-wrong-size-spec : {M : Type 1} → statement M
+is-wrong-size-spec = tie.close (tie.spec returns returns-2)

@@ -1,0 +1,68 @@
+// What a record is refused by, in the order of document 01.
+ghost use mathlib.Core.Path.{_≡_};
+ghost use Prim.Native.Nat.{_≤_};
+ghost use lib.ListN.{length};
+ghost use Rattle.scanfile.specs.Faults.{wrongSize, mostOf, recordFault, optionsFault};
+use crate::layout::FLAGS_AT;
+use crate::layout::UNIT_AT;
+use records::HEAD_LENGTH;
+use records::four_bytes;
+use records::two_bytes;
+
+// 23: kind 1 not 12 long, or another no multiple of 12.
+fn is_wrong_size(kind: u32, size: usize) -> bool
+    ensures { λ r. ⌜ r ≡ wrongSize kind size ⌝ }
+{
+    if kind == 1 {
+        size != 12
+    } else {
+        size % 12 != 0
+    }
+}
+
+// 27: the most bytes that a record's payload may have.
+fn most_of(kind: u32) -> usize
+    ensures { λ r. ⌜ r ≡ mostOf kind ⌝ ∗ ⌜ r ≤ 3072 ⌝ }
+{
+    if kind == 2 { 128 * 12 } else { 256 * 12 }
+}
+
+// The number that refuses the record at an offset, which is to be of a kind, or 0.
+pub fn record_fault(bytes: &[u8], kind: u32, at: usize) -> u32
+    requires { ⌜ at ≤ 1560 ⌝ }
+    ensures { λ r. ⌜ r ≡ recordFault (now (bytes .entry)) kind at ⌝ }
+{
+    if bytes.len() < at + HEAD_LENGTH {
+        return 21;
+    }
+    if two_bytes(bytes, at + 4) != kind {
+        return 22;
+    }
+    let size = four_bytes(bytes, at) as usize;
+    if is_wrong_size(kind, size) {
+        return 23;
+    }
+    if most_of(kind) < size {
+        return 27;
+    }
+    if bytes.len() < at + HEAD_LENGTH + size {
+        21
+    } else {
+        0
+    }
+}
+
+// The number that refuses the first record's payload, or 0: the unit, then the flags.
+pub fn options_fault(bytes: &[u8]) -> u32
+    requires { ⌜ 18 ≤ length (now bytes) ⌝ }
+    ensures { λ r. ⌜ r ≡ optionsFault (now (bytes .entry)) ⌝ }
+{
+    let unit = two_bytes(bytes, UNIT_AT);
+    if !((unit == 1) | (unit == 2)) {
+        return 24;
+    }
+    if 3 < two_bytes(bytes, FLAGS_AT) {
+        return 26;
+    }
+    0
+}

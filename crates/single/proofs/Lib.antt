@@ -1,2 +1,0 @@
--- Laws of the crate.
-mod PatternLaws

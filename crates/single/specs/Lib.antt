@@ -1,2 +1,0 @@
--- What the crate `single` means: operations of `geometry` and `placement`, on bit patterns.
-pub mod Patterns

@@ -1,0 +1,67 @@
+-- `thinning::copied` meets its contract: the mesh is copied and the work memory cleared.
+-- Assumes nothing.
+use mathlib.Core.Path.{refl}
+use borrow.Author.Needs.{needs}
+use Rattle.thinning.proofs.SizeLaws.{points-fit, few-fits}
+use Rattle.thinning.proofs.copied.Statement.{statement}
+use Rattle.thinning.proofs.copied.Tie as tie
+
+-- the function's entry, from its end
+abbrev entry : tie.After-slice-known10 → tie.Start
+entry c = c .before .before .before .before .before .before .before .before .before .before .before .before .before .before .before .before .before .before .before .before .before .before .before .before
+
+copy-mesh-requires : tie.Need-copy-mesh-requires
+copy-mesh-requires c κs = search needs
+
+clear-requires : tie.Need-clear-requires
+clear-requires c κs = let start = c .before .before .before .before .before .before .before .before .before .before .before .before .before .before .before .before .before in start .pre .working
+
+cast-t22 : tie.Need-cast-t22
+cast-t22 c = let start = entry c in points-fit (start .pre .working .u32s .points-few)
+
+cast-t23 : tie.Need-cast-t23
+cast-t23 c = let start = entry c in few-fits (start .pre .working .u32s .faces-few)
+
+same-length : tie.Need-same-length
+same-length c = c .before .before .before .before .before .before .before .before .before .before .before .before .before .out-points .given
+
+same-length-2 : tie.Need-same-length-2
+same-length-2 c = c .before .before .before .before .before .before .before .before .before .before .before .out-faces .given
+
+same-length-3 : tie.Need-same-length-3
+same-length-3 c = c .before .before .before .before .before .w .given
+
+same-length-4 : tie.Need-same-length-4
+same-length-4 c = c .before .before .before .p .given
+
+same-length-5 : tie.Need-same-length-5
+same-length-5 c = c .before .q .given
+
+returns : tie.Need-returns
+returns c =
+    let done = c .before .before .before .before .before .before in
+    let copy = done .before .before .before .before .before .before .before .before .copy-mesh .ensures in
+    let zeroed = done .clear .ensures in
+    record {
+      answered = refl;
+      points-out = copy .0;
+      faces-out = copy .1;
+      u32s-left = zeroed .u32s;
+      f32s-left = zeroed .f32s;
+      f64s-left = zeroed .f64s;
+    }
+
+pub copied-spec : {M : Type 1} → statement M
+copied-spec =
+    tie.close
+    (tie.spec
+    copy-mesh-requires
+    clear-requires
+    cast-t22
+    cast-t23
+    same-length
+    same-length-2
+    same-length-3
+    same-length-4
+    same-length-5
+    returns)

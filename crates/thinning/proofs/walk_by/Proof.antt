@@ -1,0 +1,63 @@
+-- `thinning::walk_by` meets its contract: each walk is handed what it asks, and states what is asked.
+-- Assumes nothing.
+use borrow.Author.Needs.{needs}
+use Rattle.thinning.proofs.WalkedLaws.{plain-room}
+use Rattle.thinning.proofs.walk_by.Statement.{statement}
+use Rattle.thinning.proofs.walk_by.Tie as tie
+
+enum-told : tie.Need-enum-told
+enum-told c = search needs
+
+plain-walk-requires : tie.Need-plain-walk-requires
+plain-walk-requires c κs =
+    let asked = c .before .before .before .before .before .before .before .before .pre in
+    (asked .tidy, (asked .all-live, plain-room asked))
+
+enum-told-2 : tie.Need-enum-told-2
+enum-told-2 c = search needs
+
+heap-walk-requires : tie.Need-heap-walk-requires
+heap-walk-requires c κs =
+    let asked = c .before .before .before .before .before .before .before .before .pre in
+    (asked .tidy, (asked .all-live, (asked .places-fit, asked .costs-fit)))
+
+same-length : tie.Need-same-length
+same-length c = c .before .before .before .before .before .w .given
+
+same-length-2 : tie.Need-same-length-2
+same-length-2 c = c .before .before .before .p .given
+
+same-length-3 : tie.Need-same-length-3
+same-length-3 c = c .before .q .given
+
+returns : tie.Need-returns
+returns c = c .before .before .before .before .before .before .plain-walk .ensures
+
+same-length-4 : tie.Need-same-length-4
+same-length-4 c = c .before .before .before .before .before .w2 .given
+
+same-length-5 : tie.Need-same-length-5
+same-length-5 c = c .before .before .before .p2 .given
+
+same-length-6 : tie.Need-same-length-6
+same-length-6 c = c .before .q2 .given
+
+returns-2 : tie.Need-returns-2
+returns-2 c = c .before .before .before .before .before .before .heap-walk .ensures
+
+pub walk-by-spec : {M : Type 1} → statement M
+walk-by-spec =
+    tie.close
+    (tie.spec
+    enum-told
+    plain-walk-requires
+    enum-told-2
+    heap-walk-requires
+    same-length
+    same-length-2
+    same-length-3
+    returns
+    same-length-4
+    same-length-5
+    same-length-6
+    returns-2)
