@@ -1,5 +1,5 @@
 -- What is known of an input once its verdict is known. proofs/VerdictLaws.antt and RefusalLaws.antt show it from the verdict.
-use Prim.Native.Nat.{ℕ, _*_, _^_, _≤_, _<_}
+use Prim.Native.Nat.{ℕ, _+_, _*_, _^_, _≤_, _<_}
 use mathlib.Core.Path.{_≡_}
 use mathlib.Core.List.{List}
 use mathlib.Core.Bool.{Bool, true, false, not, cond}
@@ -9,7 +9,7 @@ use lib.Ieee.{nan, le, eq}
 use Rattle.walk.specs.declared.Face.{Face}
 use Rattle.lists.specs.Lists.{every}
 use Rattle.walk.specs.Faces.{proper, facesOf}
-use Rattle.meaning.specs.Input.{Input, pointsIn, facesIn, f32sNeeded, f64sNeeded, u32sNeeded}
+use Rattle.meaning.specs.Input.{Input, pointsIn, facesIn}
 use Rattle.meaning.specs.Answers.{zeroFloat, oneFloat, badLimit, badCoordinate, outside}
 
 -- none of 1 to 7 holds
@@ -23,9 +23,9 @@ pub record Sized (i : Input) : Type 0 where
   -- 3: each lent buffer is long enough
   pub room-points : 3 * pointsIn i ≤ i .rooms .points
   pub room-faces : 3 * facesIn i ≤ i .rooms .faces
-  pub room-u32s : u32sNeeded (pointsIn i) (facesIn i) ≤ i .rooms .u32s
-  pub room-f32s : f32sNeeded (pointsIn i) (facesIn i) ≤ i .rooms .f32s
-  pub room-f64s : f64sNeeded (pointsIn i) (facesIn i) ≤ i .rooms .f64s
+  pub room-u32s : 16 * pointsIn i + 32 * facesIn i ≤ i .rooms .u32s
+  pub room-f32s : 4 * pointsIn i + 12 * facesIn i ≤ i .rooms .f32s
+  pub room-f64s : 16 * pointsIn i + 6 * facesIn i ≤ i .rooms .f64s
   -- 4: there are points and faces
   pub points-some : 0 < pointsIn i
   pub faces-some : 0 < facesIn i

@@ -12,8 +12,7 @@ use Rattle.placement.specs.declared.pair.Vertex.{Vertex}
 use Rattle.placement.specs.Pairs.{pairPlace}
 use Rattle.walk.specs.declared.Face.{Face}
 use Rattle.lists.specs.Lists.{every}
-use Rattle.walk.specs.Faces.{proper, shared, common, faceAt}
-use Rattle.walk.specs.Points.{dataOf, mergedOf}
+use Rattle.walk.specs.Faces.{proper, shared, common, faceAt, dataOf, mergedOf}
 use Rattle.walk.specs.FoldTest.{movedOf, fairFace, allowed}
 use Rattle.walk.specs.Pairs.{pairOf}
 use Rattle.lists.proofs.TestLaws.{by-test, by-outcome as by-outcome}

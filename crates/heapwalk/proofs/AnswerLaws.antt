@@ -13,7 +13,7 @@ use Rattle.geometry.specs.declared.Point.{Point}
 use Rattle.placement.specs.declared.Limit.{Limit}
 use Rattle.placement.specs.declared.pair.Vertex.{Vertex}
 use Rattle.lists.specs.Lists.{sum, those, some, without, below}
-use Rattle.walk.specs.Points.{Mesh}
+use Rattle.walk.specs.Faces.{Mesh}
 use Rattle.walk.specs.FoldTest.{allowed}
 use Rattle.walk.specs.Walk.{folded, closed, ended, tried, chosen, answer, after, SameState}
 use Rattle.walk.specs.Pairs.{pairOf}

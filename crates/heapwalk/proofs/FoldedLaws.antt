@@ -15,7 +15,7 @@ use Rattle.geometry.specs.declared.Point.{Point}
 use Rattle.placement.specs.declared.Limit.{Limit}
 use Rattle.placement.specs.declared.pair.Vertex.{Vertex}
 use Rattle.lists.specs.Lists.{sum, those}
-use Rattle.walk.specs.Points.{Mesh, mergedOf}
+use Rattle.walk.specs.Faces.{Mesh, mergedOf}
 use Rattle.walk.specs.Fold.{foldedFaces, foldedMesh}
 use Rattle.walk.specs.Walk.{folded, after, SameState}
 use Rattle.walk.specs.Pairs.{pairOf, apart, opened}

@@ -13,7 +13,7 @@ use Rattle.placement.specs.declared.Limit.{Limit}
 use Rattle.placement.specs.declared.pair.Vertex.{Vertex}
 use Rattle.walk.specs.declared.Pair.{Pair}
 use Rattle.lists.specs.Lists.{sum, some, those, below}
-use Rattle.walk.specs.Points.{Mesh}
+use Rattle.walk.specs.Faces.{Mesh}
 use Rattle.walk.specs.Walk.{started}
 use Rattle.lists.proofs.SumLaws.{sum-append, sum-flatMap, sum-length}
 use Rattle.lists.proofs.BelowLaws.{sum-below, sum-partial}

@@ -7,7 +7,7 @@ ghost use Rattle.meaning.specs.Call.{lent, inputOf};
 ghost use Rattle.hjoltravan.specs.Calls.{optionsOf, fiveOf, Called, CalledWithFolds};
 use meaning::Answer;
 use meaning::Options;
-use thinning::Engine;
+use walking::Engine;
 
 // The options of a call.
 fn options_of(ratio: f32, preserve: bool, limited: bool, limit: f32) -> Options

@@ -8,7 +8,7 @@ use mathlib.Core.Path.{_≡_, refl, sym, ap, subst, _∙_}
 use mathlib.Core.List.{List, [], _∷_, _++_, append-assoc}
 use lib.ListN.{length, getD, take, drop, set, replicate, length-append, length-replicate}
 use lib.Seq.{drop-cons, set-at, take-suc, length-take-le, take-length, length-front}
-use Rattle.lists.specs.Frames.{overlaid}
+use Rattle.lists.specs.Lists.{overlaid}
 
 module _ {A : Type 0} where
   -- one element more

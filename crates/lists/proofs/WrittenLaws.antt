@@ -8,7 +8,8 @@ use mathlib.Core.List.{List}
 use lib.ListN.{length, set, getD, drop, List·getD-append}
 use lib.Seq.{getD-set-same, getD-set-other, getD-append-add, getD-drop}
 use borrow.Author.Count.{below-none, below-more}
-use Rattle.lists.specs.Frames.{Written, overlaid}
+use Rattle.lists.specs.Frames.{Written}
+use Rattle.lists.specs.Lists.{overlaid}
 use Rattle.lists.proofs.OverlayLaws.{length-over}
 use Rattle.lists.proofs.FrameLaws.{but-refl, but-then, but-set, but-widen}
 

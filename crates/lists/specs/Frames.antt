@@ -1,7 +1,7 @@
 -- Cells of a list that change, and cells that don't.
 use Prim.Native.Nat.{ℕ, _+_, _≤_, _<_}
 use mathlib.Core.Path.{_≡_}
-use mathlib.Core.List.{List, _++_}
+use mathlib.Core.List.{List}
 use lib.ListN.{length, getD, drop}
 use lib.Ieee.{Float, nan}
 
@@ -21,7 +21,3 @@ pub record FloatsBut (lo hi : ℕ) (p p' : List Float) : Type 0 where
 pub record Written (start n : ℕ) (value : ℕ → ℕ) (w w' : List ℕ) : Type 0 where
   pub but : But start (start + n) w w'
   pub cells : (i : ℕ) → i < n → getD w' (start + i) 0 ≡ value i
-
--- a list written over the beginning of another
-abbrev pub overlaid : {A : Type 0} → List A → List A → List A
-overlaid new old = new ++ drop (length new) old

@@ -3,7 +3,7 @@ use Prim.Native.Nat.{ℕ, zero, suc, _+_}
 use mathlib.Core.Path.{_≡_}
 use mathlib.Core.List.{List, [], _∷_, _++_, map}
 use mathlib.Core.Bool.{Bool, true, false, _&&_, _||_, cond}
-use lib.ListN.{getD}
+use lib.ListN.{length, getD, drop}
 
 module _ {A : Type 0} where
   -- the sum of a weight over a list
@@ -51,3 +51,7 @@ stretch w base n = map (λ i. getD w (base + i) 0) (below n)
 unfoldable pub firstOf : {A : Type 0} → (A → Bool) → List A → ℕ
 firstOf test [] = 0
 firstOf test (x ∷ xs) = cond (test x) 0 (suc (firstOf test xs))
+
+-- a list written over the beginning of another
+abbrev pub overlaid : {A : Type 0} → List A → List A → List A
+overlaid new old = new ++ drop (length new) old

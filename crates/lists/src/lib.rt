@@ -4,7 +4,8 @@ ghost use mathlib.Core.List.{_++_};
 ghost use Prim.Native.Nat.{_+_, _≤_};
 ghost use lib.ListN.{length, drop, replicate};
 ghost use lib.Ieee.{binary32, binary64, ofBits};
-ghost use Rattle.lists.specs.Frames.{Written, overlaid};
+ghost use Rattle.lists.specs.Frames.{Written};
+ghost use Rattle.lists.specs.Lists.{overlaid};
 
 // The same number to a stretch of cells.
 pub fn fill(w: &mut [u32], start: usize, n: usize, value: u32)

@@ -12,7 +12,7 @@ use Rattle.placement.specs.declared.Limit.{Limit}
 use Rattle.placement.specs.declared.pair.Vertex.{Vertex}
 use Rattle.placement.specs.Choices.{kindOf}
 use Rattle.placement.specs.Pairs.{pairQuadric, pairPlace, pairCost, eligible}
-use Rattle.walk.specs.Points.{Rules}
+use Rattle.walk.specs.Faces.{Rules}
 
 -- a signed 64-bit key counted from the lowest one
 abbrev pub fromLowest : ℤ → ℕ

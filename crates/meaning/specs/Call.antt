@@ -1,5 +1,5 @@
 -- The statement of a call: its answer and every lent cell afterwards, for any input. `Thinned`, at the end, is what the public entry states.
-use Prim.Native.Nat.{ℕ}
+use Prim.Native.Nat.{ℕ, _+_, _*_}
 use mathlib.Core.Path.{_≡_}
 use mathlib.Core.List.{List, _++_}
 use mathlib.Core.Bool.{Bool, cond}
@@ -7,10 +7,10 @@ use lib.ListN.{length, take, drop, replicate}
 use lib.Ieee.{Float, binary32, ofBits}
 use Rattle.geometry.specs.Constants.{nought}
 use Rattle.walk.specs.declared.Pair.{Pair}
-use Rattle.lists.specs.Frames.{overlaid}
+use Rattle.lists.specs.Lists.{overlaid}
 use Rattle.meaning.specs.declared.Answer.{Answer}
 use Rattle.meaning.specs.declared.Options.{Options}
-use Rattle.meaning.specs.Input.{Input, pointsIn, facesIn, u32sNeeded, f32sNeeded, f64sNeeded}
+use Rattle.meaning.specs.Input.{Input, pointsIn, facesIn}
 use Rattle.meaning.specs.Outcome.{Outcome, outcome, foldsOf, pairNumbers}
 
 -- ---- what a caller hands over
@@ -32,19 +32,12 @@ abbrev pub lent : (points : List Float) (faces u32s : List ℕ) (f32s f64s : Lis
 lent points faces u32s f32s f64s = record { points = points; faces = faces; u32s = u32s; f32s = f32s; f64s = f64s }
 
 -- the input of a call: of the lent buffers only their lengths count
-abbrev pub inputOf : (points : List Float) (faces : List ℕ) (options : Options) (before : Lent) → Input
-inputOf points faces options before =
+abbrev pub inputOf : (points : List Float) (faces : List ℕ) (options : Options) (b : Lent) → Input
+inputOf points faces options b =
     record {
       points = points;
       faces = faces;
-      rooms =
-          record {
-            points = length (before .points);
-            faces = length (before .faces);
-            u32s = length (before .u32s);
-            f32s = length (before .f32s);
-            f64s = length (before .f64s);
-          };
+      rooms = record { points = length (b .points); faces = length (b .faces); u32s = length (b .u32s); f32s = length (b .f32s); f64s = length (b .f64s) };
       options = options;
       bound = coordinateBound;
     }
@@ -61,9 +54,9 @@ pub record Leaves (v f : ℕ) (o : Outcome) (before after : Lent) (r : Answer) :
   pub answered : r ≡ o .answer
   pub points-out : after .points ≡ overlaid (o .points) (before .points)
   pub faces-out : after .faces ≡ overlaid (o .faces) (before .faces)
-  pub u32s-left : after .u32s ≡ leftAs (o .worked) (u32sNeeded v f) 0 (before .u32s)
-  pub f32s-left : after .f32s ≡ leftAs (o .worked) (f32sNeeded v f) nought (before .f32s)
-  pub f64s-left : after .f64s ≡ leftAs (o .worked) (f64sNeeded v f) nought (before .f64s)
+  pub u32s-left : after .u32s ≡ leftAs (o .worked) (16 * v + 32 * f) 0 (before .u32s)
+  pub f32s-left : after .f32s ≡ leftAs (o .worked) (4 * v + 12 * f) nought (before .f32s)
+  pub f64s-left : after .f64s ≡ leftAs (o .worked) (16 * v + 6 * f) nought (before .f64s)
 
 -- a call on the input i answers r and turns the lent buffers from before to after: the outcome of its input
 abbrev pub Answered : (i : Input) (before after : Lent) (r : Answer) → Type 0

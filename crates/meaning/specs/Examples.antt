@@ -25,8 +25,7 @@ use Rattle.walk.specs.Faces.{borderPoint, borderCount}
 use Rattle.walk.specs.Fold.{foldedFaces, foldedMesh}
 use Rattle.walk.specs.FoldTest.{fairFace, allowed}
 use Rattle.walk.specs.Pairs.{pairsBelow, order, least, opened}
-use Rattle.walk.specs.Machines.{walk, foldList}
-use Rattle.walk.specs.Walk.{foldOf, budget, started, tried, chosen, answer, after}
+use Rattle.walk.specs.Walk.{walk, foldList, foldOf, budget, started, tried, chosen, answer, after}
 use Rattle.walk.specs.Output.{used, placeIn, renumbered, numbersOf}
 use Rattle.meaning.specs.Arithmetic.{fairPoints, mergedVertex, rulesOf}
 use Rattle.meaning.specs.Start.{gathered, startMesh}

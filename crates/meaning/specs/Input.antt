@@ -26,15 +26,3 @@ facesIn i = length (i .faces) / 3
 -- the point number x of a list of coordinates, three to a point
 abbrev pub pointAt : List Float → ℕ → Point
 pointAt p x = record { x = getD p (3 * x) nan; y = getD p (3 * x + 1) nan; z = getD p (3 * x + 2) nan }
-
--- the cells of u32 in the work memory that V points and F faces need
-abbrev pub u32sNeeded : ℕ → ℕ → ℕ
-u32sNeeded v f = 16 * v + 32 * f
-
--- and those of f32
-abbrev pub f32sNeeded : ℕ → ℕ → ℕ
-f32sNeeded v f = 4 * v + 12 * f
-
--- and those of f64
-abbrev pub f64sNeeded : ℕ → ℕ → ℕ
-f64sNeeded v f = 16 * v + 6 * f

@@ -8,10 +8,8 @@ use lib.Ieee.{Float}
 use Rattle.bits.specs.Cut.{target}
 use Rattle.placement.specs.declared.pair.Vertex.{Vertex}
 use Rattle.walk.specs.declared.Pair.{Pair}
-use Rattle.walk.specs.Faces.{facesOf, borderCount}
-use Rattle.walk.specs.Points.{Rules, Mesh}
-use Rattle.walk.specs.Machines.{walk, foldList}
-use Rattle.walk.specs.Walk.{State, started, budget, plainMachine}
+use Rattle.walk.specs.Faces.{facesOf, borderCount, Rules, Mesh}
+use Rattle.walk.specs.Walk.{walk, foldList, State, started, budget, plainMachine}
 use Rattle.walk.specs.Output.{used, renumbered, numbersOf}
 use Rattle.meaning.specs.Start.{startMesh}
 use Rattle.meaning.specs.Arithmetic.{rulesOf}
@@ -61,10 +59,7 @@ bordersHeld i = cond (i .options .preserve) (borderCount (pointsIn i) (facesOf (
 unfoldable pub partsIn : Rules Vertex → Mesh Vertex → List ℕ → List Float
 partsIn rules m [] = []
 partsIn rules m (x ∷ xs) =
-    getD (m .points) x (rules .blank) .point .x
-    ∷ getD (m .points) x (rules .blank) .point .y
-    ∷ getD (m .points) x (rules .blank) .point .z
-    ∷ partsIn rules m xs
+    let at = getD (m .points) x (rules .blank) .point in at .x ∷ at .y ∷ at .z ∷ partsIn rules m xs
 
 -- An answer, the parts of points and the numbers of faces written, and whether the work memory is zeroed.
 pub record Outcome : Type 0 where
@@ -96,12 +91,7 @@ thinnedOutcome i =
 unfoldable pub outcomeBy : Verdict → Input → Outcome
 outcomeBy (Refused number place) i = record { answer = refusal number place; points = []; faces = []; worked = false }
 outcomeBy Copied i =
-    record {
-      answer = record { number = 0; place = 0; points = pointsIn i; faces = facesIn i; folds = 0 };
-      points = i .points;
-      faces = i .faces;
-      worked = true;
-    }
+    record { answer = record { number = 0; place = 0; points = pointsIn i; faces = facesIn i; folds = 0 }; points = i .points; faces = i .faces; worked = true }
 outcomeBy Admitted i =
     cond (stuck i)
     (record { answer = stuckAnswer (bordersHeld i); points = []; faces = []; worked = true })

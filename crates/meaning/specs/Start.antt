@@ -10,8 +10,7 @@ use Rattle.placement.specs.declared.pair.Vertex.{Vertex}
 use Rattle.placement.specs.Choices.{kindOf}
 use Rattle.walk.specs.declared.Face.{Face}
 use Rattle.lists.specs.Lists.{below}
-use Rattle.walk.specs.Faces.{holds, facesOf, borderPoint}
-use Rattle.walk.specs.Points.{Mesh}
+use Rattle.walk.specs.Faces.{holds, facesOf, borderPoint, Mesh}
 use Rattle.meaning.specs.Input.{pointAt}
 
 -- the quadric of a face's plane

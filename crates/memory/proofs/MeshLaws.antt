@@ -13,8 +13,7 @@ use Rattle.placement.specs.Choices.{kindOf}
 use Rattle.walk.specs.declared.Face.{Face}
 use Rattle.lists.specs.Lists.{below}
 use Rattle.lists.specs.Frames.{But}
-use Rattle.walk.specs.Faces.{faceAt}
-use Rattle.walk.specs.Points.{Mesh}
+use Rattle.walk.specs.Faces.{faceAt, Mesh}
 use Rattle.memory.specs.Memory.{kind, lives, liveFaces}
 use Rattle.memory.specs.Layout.{kindsFrom, marksFrom}
 use Rattle.memory.specs.Points.{vertexAt, withPoint, withQuadric, meshOf}

@@ -89,3 +89,14 @@ costsFrom v = 10 * v
 
 abbrev pub costsTo : ℕ → ℕ → ℕ
 costsTo v f = 10 * v + 3 * f
+
+-- ---- what document 01 states for V points and F faces
+
+abbrev pub u32sNeeded : ℕ → ℕ → ℕ
+u32sNeeded v f = 16 * v + 32 * f
+
+abbrev pub f32sNeeded : ℕ → ℕ → ℕ
+f32sNeeded v f = 4 * v + 12 * f
+
+abbrev pub f64sNeeded : ℕ → ℕ → ℕ
+f64sNeeded v f = 16 * v + 6 * f

@@ -8,8 +8,7 @@ use lib.ListN.{length, getD}
 use Rattle.walk.specs.declared.Face.{Face}
 use Rattle.lists.specs.Lists.{those, below, stretch}
 use Rattle.walk.specs.Faces.{holds, proper, faceAt}
-use Rattle.memory.specs.Layout.{aroundFrom, firstsFrom, kindsFrom, livesFrom, marksFrom, nearFrom, nextsFrom}
-use Rattle.meaning.specs.Input.{u32sNeeded}
+use Rattle.memory.specs.Layout.{aroundFrom, firstsFrom, kindsFrom, livesFrom, marksFrom, nearFrom, nextsFrom, u32sNeeded}
 
 -- ---- the cells
 

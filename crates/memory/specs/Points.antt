@@ -9,7 +9,7 @@ use Rattle.geometry.specs.declared.Quadric.{Quadric}
 use Rattle.placement.specs.declared.pair.Vertex.{Vertex}
 use Rattle.placement.specs.Choices.{kindOf}
 use Rattle.lists.specs.Lists.{below}
-use Rattle.walk.specs.Points.{Mesh}
+use Rattle.walk.specs.Faces.{Mesh}
 use Rattle.memory.specs.Memory.{kind, liveFaces}
 use Rattle.meaning.specs.Input.{pointAt}
 

@@ -68,9 +68,10 @@ pub fn swap_slots(w: &mut [u32], v: usize, f: usize, i: usize, j: usize)
     requires { ⌜ i < 3 * f ⌝ ∗ ⌜ j < 3 * f ⌝ ∗ ⌜ Room v f (now w) ⌝ }
     ensures { λ _. ⌜ now (w .exit) ≡ set (set (now (w .entry)) (orderFrom v f + i) (slotAt v f (now (w .entry)) j)) (orderFrom v f + j) (slotAt v f (now (w .entry)) i) ⌝ }
 {
-    let first = w[15 * f + 5 * v + i];
-    let second = w[15 * f + 5 * v + j];
-    set_two(w, 15 * f + 5 * v + i, second, 15 * f + 5 * v + j, first);
+    let from = 15 * f + 5 * v;
+    let first = w[from + i];
+    let second = w[from + j];
+    set_two(w, from + i, second, from + j, first);
 }
 
 // A point's stamp.

@@ -15,7 +15,7 @@ use borrow.Author.Tests.{eqb-true, eqb-false, ne-eqb}
 use Rattle.geometry.specs.declared.Quadric.{Quadric}
 use Rattle.geometry.specs.Quadrics.{zeroQuadric, sum}
 use Rattle.walk.specs.declared.Face.{Face}
-use Rattle.lists.specs.Lists.{below}
+use Rattle.lists.specs.Lists.{below, overlaid}
 use Rattle.walk.specs.Faces.{holds, proper, faceAt}
 use Rattle.lists.proofs.TestLaws.{by-test}
 use Rattle.walk.proofs.FaceLaws.{corners}
@@ -25,7 +25,6 @@ use Rattle.meaning.specs.Start.{faceQuadric, gathered}
 use Rattle.mesh.specs.Contracts.Quadrics.{withSum, withFace, QuadricsAre}
 use Rattle.memory.proofs.PointLaws.{point-same, quadric-stored, quadric-other, quadric-length, quadric-rest}
 use Rattle.mesh.proofs.GatheredLaws.{gathered-next}
-use Rattle.lists.specs.Frames.{overlaid}
 
 -- ---- points
 

@@ -10,7 +10,7 @@ use lib.Ieee.{Float}
 use Rattle.placement.specs.declared.Limit.{Limit}
 use Rattle.walk.specs.declared.Pair.{Pair}
 use Rattle.lists.specs.Lists.{sum, below}
-use Rattle.walk.specs.Points.{Rules, Mesh}
+use Rattle.walk.specs.Faces.{Rules, Mesh}
 use Rattle.walk.specs.Pairs.{pairOf, eligiblePair}
 use Rattle.lists.proofs.SumLaws.{sum-map, sum-those, sum-length}
 use Rattle.walk.proofs.OpenSums.{opened-sum}

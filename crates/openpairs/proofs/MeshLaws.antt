@@ -7,7 +7,7 @@ use lib.ListN.{length, length-map}
 use lib.Ieee.{Float}
 use Rattle.placement.specs.declared.pair.Vertex.{Vertex}
 use Rattle.lists.specs.Lists.{below}
-use Rattle.walk.specs.Points.{Rules, dataOf}
+use Rattle.walk.specs.Faces.{Rules, dataOf}
 use Rattle.lists.proofs.BelowLaws.{length-below, getD-each}
 use Rattle.memory.specs.Points.{vertexAt, meshOf}
 

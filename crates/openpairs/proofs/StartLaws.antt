@@ -15,8 +15,7 @@ use Rattle.placement.specs.declared.Limit.{Limit}
 use Rattle.placement.specs.declared.pair.Vertex.{Vertex}
 use Rattle.walk.specs.declared.Pair.{Pair}
 use Rattle.lists.specs.Lists.{sum, every, below}
-use Rattle.walk.specs.Faces.{proper}
-use Rattle.walk.specs.Points.{Rules, Mesh}
+use Rattle.walk.specs.Faces.{proper, Rules, Mesh}
 use Rattle.walk.specs.Pairs.{pairOf}
 use Rattle.walk.specs.Walk.{started}
 use Rattle.lists.proofs.TestLaws.{flag-le}

@@ -18,7 +18,7 @@ use Rattle.lists.proofs.FrameLaws.{but-refl, but-set}
 use Rattle.meaning.specs.Input.{pointAt}
 use Rattle.memory.specs.Points.{partsOf}
 use Rattle.output.specs.declared.writing.NewNumber.{NewNumber}
-use Rattle.lists.specs.Frames.{overlaid}
+use Rattle.lists.specs.Lists.{overlaid}
 use Rattle.output.specs.Contracts.Numbering.{partsPut, Met, Known, Numbered}
 use Rattle.lists.proofs.OverlayLaws.{over-three, length-over}
 use Rattle.memory.specs.Layout.{marksFrom, stampsFrom}

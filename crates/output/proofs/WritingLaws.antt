@@ -18,7 +18,7 @@ use Rattle.walk.proofs.RenumberLaws.{used-append, placed, renumbered-append}
 use Rattle.lists.proofs.FrameLaws.{but-then}
 use Rattle.output.specs.declared.Counts.{Counts}
 use Rattle.output.specs.declared.writing.NewNumber.{NewNumber}
-use Rattle.lists.specs.Frames.{overlaid}
+use Rattle.lists.specs.Lists.{overlaid}
 use Rattle.output.specs.Contracts.Numbering.{threePut, Numbered, FacesOut, FaceWritten}
 use Rattle.lists.proofs.OverlayLaws.{over-three}
 

@@ -2,7 +2,7 @@
 ghost use mathlib.Core.Path.{_≡_};
 ghost use Prim.Native.Nat.{_≤_};
 ghost use lib.ListN.{length};
-ghost use Rattle.lists.specs.Frames.{overlaid};
+ghost use Rattle.lists.specs.Lists.{overlaid};
 
 // The mesh as it came, to the outputs.
 pub fn copy_mesh(points: &[f32], faces: &[u32], out_points: &mut [f32], out_faces: &mut [u32])

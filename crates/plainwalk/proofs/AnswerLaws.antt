@@ -14,7 +14,7 @@ use Rattle.placement.specs.declared.pair.Vertex.{Vertex}
 use Rattle.placement.specs.Pairs.{pairPlace}
 use Rattle.walk.specs.declared.Pair.{Pair}
 use Rattle.lists.specs.Lists.{sum, below}
-use Rattle.walk.specs.Points.{Mesh}
+use Rattle.walk.specs.Faces.{Mesh}
 use Rattle.walk.specs.FoldTest.{allowed}
 use Rattle.walk.specs.Walk.{State, Answer, folded, closed, ended, tried, chosen, answer, after, SameState}
 use Rattle.walk.specs.Pairs.{pairOf}

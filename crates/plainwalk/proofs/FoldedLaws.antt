@@ -9,7 +9,7 @@ use lib.ListN.{length, length-append}
 use Rattle.placement.specs.declared.Limit.{Limit}
 use Rattle.placement.specs.declared.pair.Vertex.{Vertex}
 use Rattle.lists.specs.Lists.{sum, those}
-use Rattle.walk.specs.Points.{Mesh}
+use Rattle.walk.specs.Faces.{Mesh}
 use Rattle.walk.specs.Fold.{foldedFaces, foldedMesh}
 use Rattle.walk.specs.Walk.{folded, after, SameState}
 use Rattle.walk.specs.Pairs.{pairOf, apart, opened}

@@ -12,7 +12,7 @@ use Rattle.placement.specs.declared.pair.Vertex.{Vertex}
 use Rattle.lists.specs.Lists.{below}
 use Rattle.lists.specs.Frames.{But}
 use Rattle.walk.specs.declared.Pair.{Pair}
-use Rattle.walk.specs.Points.{Mesh}
+use Rattle.walk.specs.Faces.{Mesh}
 use Rattle.walk.specs.Walk.{State, foldOf, budget, answer, after, SameState, plainMachine}
 use Rattle.walk.specs.Sound.{Sound}
 use Rattle.walk.proofs.WalkLaws.{facesLeft, SoundWithin, plain-ending}

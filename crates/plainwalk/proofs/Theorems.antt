@@ -9,9 +9,8 @@ use lib.Ieee.{Float}
 use lib.ListN.{length}
 use Rattle.placement.specs.declared.Limit.{Limit}
 use Rattle.placement.specs.declared.pair.Vertex.{Vertex}
-use Rattle.walk.specs.Points.{Mesh}
-use Rattle.walk.specs.Machines.{walk}
-use Rattle.walk.specs.Walk.{State, ended, budget, started, answer, plainMachine}
+use Rattle.walk.specs.Faces.{Mesh}
+use Rattle.walk.specs.Walk.{walk, State, ended, budget, started, answer, plainMachine}
 use Rattle.walk.proofs.StepLaws.{ended-open}
 use Rattle.walk.proofs.WalkLaws.{walk-ends, walk-fewer}
 use Rattle.memory.specs.Memory.{liveFaces}

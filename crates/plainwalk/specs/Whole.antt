@@ -6,8 +6,7 @@ use lib.ListN.{length}
 use lib.Ieee.{Float}
 use Rattle.placement.specs.declared.Limit.{Limit}
 use Rattle.placement.specs.declared.pair.Vertex.{Vertex}
-use Rattle.walk.specs.Machines.{walk, foldList}
-use Rattle.walk.specs.Walk.{State, budget, started, plainMachine}
+use Rattle.walk.specs.Walk.{walk, foldList, State, budget, started, plainMachine}
 use Rattle.memory.specs.Points.{meshOf}
 use Rattle.meaning.specs.Arithmetic.{rulesOf}
 use Rattle.plainwalk.specs.Steps.{Within}

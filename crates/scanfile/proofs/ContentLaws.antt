@@ -10,7 +10,7 @@ use lib.ListN.{length, getD, take, drop, set, length-set, length-map, List·getD
 use lib.Seq.{paste-suc, take-length}
 use Rattle.records.specs.Words.{fourBytes, numbersFrom}
 use Rattle.records.proofs.WordLaws.{numbers-count, number-at}
-use Rattle.lists.specs.Frames.{overlaid}
+use Rattle.lists.specs.Lists.{overlaid}
 
 -- the first i are written
 pub record Reading {A : Type 0} (g : ℕ → A) (bytes : List ℕ) (at n : ℕ) (old w : List A) (i : ℕ) : Type 0 where

@@ -2,7 +2,7 @@
 ghost use mathlib.Core.Path.{_≡_};
 ghost use Rattle.scanfile.specs.Scans.{headOf, scanOf};
 ghost use Rattle.scanfile.specs.Contents.{pointsOf, faceNumbersOf};
-ghost use Rattle.lists.specs.Frames.{overlaid};
+ghost use Rattle.lists.specs.Lists.{overlaid};
 ghost use Rattle.scanfile.specs.Contracts.{HeadsThere, PointsThere, FacesThere};
 use faults::options_fault;
 use faults::record_fault;

@@ -8,7 +8,7 @@ use mathlib.Core.Bool.{Bool, true, false, cond}
 use lib.Dec.{ltb}
 use lib.ListN.{length}
 use Rattle.placement.specs.declared.pair.Vertex.{Vertex}
-use Rattle.walk.specs.Points.{Rules, Mesh}
+use Rattle.walk.specs.Faces.{Rules, Mesh}
 use Rattle.walk.specs.Output.{used, renumbered}
 use Rattle.output.proofs.WritingLaws.{length-numbers, length-renumbered}
 use Rattle.meaning.specs.declared.Verdict.{Verdict}

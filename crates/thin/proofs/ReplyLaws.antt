@@ -15,7 +15,7 @@ use Rattle.meaning.specs.Outcome.{Outcome}
 use Rattle.listing.specs.declared.Printed.{Printed}
 use Rattle.listing.specs.declared.Printed.the-variants.{Bytes}
 use Rattle.listing.specs.Texts.{refusalText, meshText, refusalFits, meshFits}
-use Rattle.lists.specs.Frames.{overlaid}
+use Rattle.lists.specs.Lists.{overlaid}
 use Rattle.listing.specs.Written.{Prints}
 use Rattle.listing.proofs.TextLaws.{refusal-room, enough-room}
 use Rattle.records.specs.Words.{numbersFrom}

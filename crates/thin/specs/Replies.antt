@@ -17,7 +17,7 @@ use Rattle.scanfile.specs.Contents.{pointsOf, faceNumbersOf}
 use Rattle.listing.specs.declared.Printed.{Printed}
 use Rattle.listing.specs.declared.Printed.the-variants.{Bytes, NoRoom}
 use Rattle.listing.specs.Texts.{refusalText, meshText}
-use Rattle.lists.specs.Frames.{overlaid}
+use Rattle.lists.specs.Lists.{overlaid}
 use Rattle.thin.specs.declared.Got.{Got}
 use Rattle.thin.specs.declared.Got.the-variants as got
 

@@ -16,7 +16,7 @@ use meaning::Answer;
 use meaning::Options;
 use scanfile::Head;
 use scanfile::Scan;
-use thinning::Engine;
+use walking::Engine;
 
 // ---- memory, of which only the lengths matter
 

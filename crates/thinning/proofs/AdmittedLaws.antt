@@ -7,7 +7,7 @@ use mathlib.Core.List.{List}
 use mathlib.Core.Bool.{true}
 use lib.Ieee.{Float}
 use lib.ListN.{length}
-use Rattle.lists.specs.Frames.{overlaid}
+use Rattle.lists.specs.Lists.{overlaid}
 use Rattle.lists.proofs.FrameLaws.{but-widen}
 use Rattle.plainwalk.specs.Steps.{Within}
 use Rattle.meaning.specs.declared.Answer.{Answer}
@@ -17,10 +17,12 @@ use Rattle.meaning.specs.Input.{Input, pointsIn, facesIn}
 use Rattle.meaning.specs.Answers.{verdictOf}
 use Rattle.meaning.specs.Outcome.{startOf, targetOf, lastMesh, foldsWalked, Outcome, foldsBy, foldsOf}
 use Rattle.meaning.specs.Call.{Lent, lent, inputOf, Leaves, Thinned}
-use Rattle.thinning.specs.declared.Came.{Came}
-use Rattle.thinning.specs.Contracts.{Working, Standing, Zeroed, inputWalked, MeshWalked, outcomeIn, Finished}
-use Rattle.thinning.proofs.FrameLaws.{working-within, zeroed-within}
-use Rattle.thinning.proofs.WalkedLaws.{outcome-is, outcome-worked}
+use Rattle.walking.specs.declared.Came.{Came}
+use Rattle.walking.specs.Contracts.{Working, inputWalked, MeshWalked}
+use Rattle.thinning.specs.Contracts.{Standing, Zeroed, outcomeIn, Finished}
+use Rattle.walking.proofs.WithinLaws.{working-within}
+use Rattle.thinning.proofs.FrameLaws.{zeroed-within}
+use Rattle.thinning.proofs.OutcomeLaws.{outcome-is, outcome-worked}
 
 -- ---- the last stage
 

@@ -9,36 +9,17 @@ use lib.ListN.{length, drop, replicate, length-append, length-replicate, length-
 use lib.Seq.{ext-getD, getD-drop}
 use Rattle.geometry.specs.Constants.{nought}
 use Rattle.lists.specs.Frames.{But}
-use Rattle.lists.proofs.FrameLaws.{but-then}
 use Rattle.plainwalk.specs.Steps.{Within}
 use Rattle.lists.proofs.DropLaws.{rest-more}
-use Rattle.thinning.specs.Contracts.{Working, Zeroed}
-use Rattle.memory.specs.Layout.{costsTo, placesTo}
-use Rattle.meaning.specs.Input.{f32sNeeded, f64sNeeded, u32sNeeded}
+use Rattle.walking.specs.Contracts.{Working}
+use Rattle.thinning.specs.Contracts.{Zeroed}
+use Rattle.memory.specs.Layout.{costsTo, placesTo, f32sNeeded, f64sNeeded, u32sNeeded}
 
 -- cells past a change
 rest-but : {hi : ℕ} {w w' : List ℕ} (n : ℕ) → But 0 hi w w' → hi ≤ n → drop n w' ≡ drop n w
 rest-but {hi} {w} {w'} n but past =
     ext-getD 0 (drop n w') (drop n w) (length-drop n w' ∙ ap (λ k. k - n) (but .same-length) ∙ sym (length-drop n w))
     (λ i l. getD-drop n w' i 0 ∙ but .over (n + i) (omega arith) ∙ sym (getD-drop n w i 0))
-
--- one change after another
-pub within-then : {v f : ℕ} {w w₁ w₂ : List ℕ} {p q p₁ q₁ p₂ q₂ : List Float} →
-    Within v f w p q w₁ p₁ q₁ → Within v f w₁ p₁ q₁ w₂ p₂ q₂ → Within v f w p q w₂ p₂ q₂
-within-then a b = record {
-  but = but-then (a .but) (b .but);
-  same-length-p = b .same-length-p ∙ a .same-length-p;
-  same-length-q = b .same-length-q ∙ a .same-length-q;
-  rest-p = b .rest-p ∙ a .rest-p;
-  rest-q = b .rest-q ∙ a .rest-q;
-}
-
--- the room stays
-pub working-within : {v f : ℕ} {w w₁ : List ℕ} {p q p₁ q₁ : List Float} →
-    Working v f w p q → Within v f w p q w₁ p₁ q₁ → Working v f w₁ p₁ q₁
-working-within {v} {f} {w} {w₁} room within =
-    let but = within .but in
-    record { u32s = record { points-few = omega arith; faces-few = omega arith; long = omega arith }; f32s = omega arith; f64s = omega arith }
 
 -- what is past the stated part is past the stages' own cells
 pub zeroed-within : {v f : ℕ} {w w₁ w' : List ℕ} {p q p₁ q₁ p' q' : List Float} →

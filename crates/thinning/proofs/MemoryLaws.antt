@@ -13,12 +13,11 @@ use mir.Val.{Fits}
 use borrow.Author.Tests.{ltb-true}
 use Rattle.placement.specs.declared.pair.Vertex.{Vertex}
 use Rattle.lists.specs.Lists.{every, those, below}
-use Rattle.walk.specs.Points.{Rules}
+use Rattle.walk.specs.Faces.{Rules, faceAt}
 use Rattle.walk.specs.Output.{used}
 use Rattle.lists.proofs.TestLaws.{left-of}
 use Rattle.lists.proofs.EveryLaws.{every-head, every-tail, every-those, every-map, length-those}
 use Rattle.walk.proofs.RenumberLaws.{corners, used-every, length-used-below}
-use Rattle.walk.specs.Faces.{faceAt}
 use Rattle.memory.specs.Memory.{lives, liveFaces}
 use Rattle.mesh.specs.Contracts.Chains.{Tidy}
 use Rattle.lists.proofs.BelowLaws.{count-below-most, all-below}

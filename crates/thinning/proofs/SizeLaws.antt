@@ -1,26 +1,14 @@
 -- What the checks say of an input, as the stages ask it of the lists.
 -- Assumes nothing.
-use Prim.Native.Nat.{ℕ, _/_, _≤_}
-use native.Mathlib.Omega.{arith}
+use Prim.Native.Nat.{ℕ, _/_}
 use mathlib.Core.List.{List}
 use lib.Ieee.{Float}
 use lib.ListN.{length}
-use mir.Syntax.{w32}
-use mir.Val.{Fits}
 use Rattle.meaning.specs.declared.Options.{Options}
 use Rattle.meaning.specs.Call.{Lent, inputOf}
 use Rattle.checks.specs.Facts.{Sized, Admissible}
-use Rattle.thinning.specs.Contracts.{Working, Measured, Ready}
-
--- a number within document 01's limits fits u32
-pub few-fits : {n : ℕ} → n ≤ 131072 → Fits w32 n
-few-fits few = record { fits = omega arith }
-
-pub points-fit : {n : ℕ} → n ≤ 65536 → Fits w32 n
-points-fit few = record { fits = omega arith }
-
-pub below-fits : {n most : ℕ} → n ≤ most → most ≤ 131072 → Fits w32 n
-below-fits below few = record { fits = omega arith }
+use Rattle.walking.specs.Contracts.{Working, Ready}
+use Rattle.thinning.specs.Contracts.{Measured}
 
 module _ (points : List Float) (faces : List ℕ) (options : Options) (before : Lent) where
   working : Sized (inputOf points faces options before) → Working (length points / 3) (length faces / 3) (before .u32s) (before .f32s) (before .f64s)

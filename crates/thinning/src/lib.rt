@@ -1,39 +1,22 @@
 // The public entry: a mesh thinned in memory that the caller lends, by the heap walk or by the plain walk.
 ghost use mathlib.Core.Path.{_≡_};
-ghost use Prim.Native.Nat.{_+_, _*_, _/_, _≤_, min};
+ghost use Prim.Native.Nat.{_+_, _*_, _/_, _≤_};
 ghost use lib.ListN.{length};
-ghost use Rattle.memory.specs.Memory.{Room};
-ghost use Rattle.memory.specs.Entries.{foldsIn};
 ghost use Rattle.mesh.specs.Contracts.Chains.{Tidy};
-ghost use Rattle.plainwalk.specs.Whole.{WalkDone};
 ghost use Rattle.meaning.specs.declared.Verdict.the-variants.{Admitted};
 ghost use Rattle.meaning.specs.Answers.{verdictOf};
 ghost use Rattle.meaning.specs.Outcome as Outcomes;
-ghost use Rattle.meaning.specs.Call.{coordinateBound, lent, inputOf, listed, Leaves, Thinned};
-ghost use Rattle.thinning.specs.Contracts.{Working, Measured, Ready, Walkable, Standing, copyOf, Zeroed, LaidOut, inputWalked, MeshWalked, outcomeIn, Finished};
+ghost use Rattle.meaning.specs.Call.{lent, inputOf, Leaves, Thinned};
+ghost use Rattle.walking.specs.Contracts.{Working};
+ghost use Rattle.thinning.specs.Contracts.{Measured, Standing, copyOf, Zeroed, outcomeIn, Finished};
 use meaning::Answer;
 use meaning::Options;
 use meaning::Rooms;
 use meaning::Verdict;
-use placement::Bounds;
-use placement::Limit;
-use plainwalk::Walked;
-
-// No coordinate is larger: 1,048,576.
-const BOUND: f32 = 1048576.0;
-
-// How the mesh is walked: by every cost worked out anew, or by a queue. The two have one statement.
-pub enum Engine {
-    Plain,
-    Heap,
-}
-
-// What the walk of a mesh came to: the faces it was to reach, the border points that are held, and the folds made.
-struct Came {
-    target: usize,
-    borders: usize,
-    folds: usize,
-}
+use walking::BOUND;
+use walking::Came;
+use walking::Engine;
+use walking::walked;
 
 // A refusal has zeros in the last three.
 fn refusal(number: u32, place: u32) -> Answer
@@ -93,95 +76,6 @@ fn copied(
         points: v as u32,
         faces: f as u32,
         folds: 0,
-    }
-}
-
-// Lays the mesh out in the work memory as it is at the start, and counts the border points that are held.
-fn laid_out(
-    points: &[f32],
-    faces: &[u32],
-    preserve: bool,
-    w: &mut [u32],
-    p: &mut [f32],
-    q: &mut [f64],
-    v: usize,
-    f: usize,
-) -> usize
-    requires { ⌜ Ready v f (now points) (now faces) (now w) (now p) (now q) ⌝ }
-    ensures { λ n. ⌜ LaidOut v f (now (points .entry)) (now (faces .entry)) preserve (now (w .entry)) (now (p .entry)) (now (q .entry)) (now (w .exit)) (now (p .exit)) (now (q .exit)) n ⌝ }
-{
-    mesh::lay_faces(faces, w, v, f);
-    let borders = ring::mark_borders(w, v, f, preserve);
-    mesh::lay_points(points, p, v);
-    mesh::lay_quadrics(w, p, q, v, f);
-    borders
-}
-
-// Walks the mesh that is laid out.
-fn walk_by(
-    engine: Engine,
-    w: &mut [u32],
-    p: &mut [f32],
-    q: &mut [f64],
-    v: usize,
-    f: usize,
-    target: usize,
-    limit: Limit,
-) -> Walked
-    requires { ⌜ Walkable v f (now w) (now p) (now q) ⌝ }
-    ensures { λ r. ⌜ WalkDone v f (now (w .entry)) (now (p .entry)) (now (q .entry)) target limit coordinateBound (now (w .exit)) (now (p .exit)) (now (q .exit)) r ⌝ }
-{
-    let bounds = Bounds { limit, size: BOUND };
-    match engine {
-        Engine::Plain => plainwalk::plain_walk(w, p, q, v, f, target, bounds),
-        Engine::Heap => heapwalk::heap_walk(w, p, q, v, f, target, bounds),
-    }
-}
-
-// The lesser of two numbers.
-fn lesser(a: usize, b: usize) -> usize
-    ensures { λ r. ⌜ r ≡ min a b ⌝ }
-{
-    if a < b { a } else { b }
-}
-
-// Lists the folds that a walk has written down, as far as there is room.
-fn list_folds(w: &[u32], v: usize, f: usize, made: usize, folds: &mut [u32])
-    requires { ⌜ Room v f (now w) ⌝ ∗ ⌜ made ≤ f ⌝ }
-    ensures { λ _. ⌜ now (folds .exit) ≡ listed (foldsIn v f (now (w .entry)) made) (now (folds .entry)) ⌝ }
-{
-    let from = memory::folds_from(v, f);
-    let n = lesser(2 * made, folds.len());
-    for i in 0..n {
-        folds[i] = w[from + i];
-    }
-}
-
-// Lays a mesh out, walks it and lists its folds.
-fn walked(
-    engine: Engine,
-    points: &[f32],
-    faces: &[u32],
-    options: Options,
-    w: &mut [u32],
-    p: &mut [f32],
-    q: &mut [f64],
-    folds: &mut [u32],
-) -> Came
-    requires { ⌜ Ready (length (now points) / 3) (length (now faces) / 3) (now points) (now faces) (now w) (now p) (now q) ⌝ }
-    ensures { λ r. ⌜ MeshWalked (inputWalked (now (points .entry)) (now (faces .entry)) options) (now (w .entry)) (now (p .entry)) (now (q .entry)) (now (w .exit)) (now (p .exit)) (now (q .exit)) (now (folds .entry)) (now (folds .exit)) r ⌝ }
-{
-    let v = points.len() / 3;
-    let f = faces.len() / 3;
-    let limit = options.limit;
-    let target = bits::cut::target(options.ratio, f as u32) as usize;
-    let borders = laid_out(points, faces, options.preserve, w, p, q, v, f);
-    let walked = walk_by(engine, w, p, q, v, f, target, limit);
-    list_folds(w, v, f, walked.folds, folds);
-    Came {
-        target: target,
-        borders: borders,
-        folds: walked.folds,
     }
 }
 

@@ -12,8 +12,7 @@ use borrow.Author.Tests.{ltb-true, eqb-true}
 use Rattle.walk.specs.declared.Face.{Face}
 use Rattle.walk.specs.declared.Pair.{Pair}
 use Rattle.lists.specs.Lists.{every, some}
-use Rattle.walk.specs.Faces.{holds, both, proper}
-use Rattle.walk.specs.Points.{Rules}
+use Rattle.walk.specs.Faces.{holds, both, proper, Rules}
 use Rattle.walk.specs.Walk.{State, SameState, Answer, folded, closed, ended, answer, after}
 use Rattle.walk.specs.Pairs.{apart}
 use Rattle.walk.specs.Sound.{Sound, heldBy}

@@ -6,8 +6,8 @@ use mathlib.Core.Logic.{_≢_}
 use mathlib.Core.List.{List, [], _∷_, _++_, append-nil}
 use lib.ListN.{length}
 use Rattle.walk.specs.declared.Pair.{Pair}
-use Rattle.walk.specs.Machines.{Machine, step, walk, foldList}
-use Rattle.walk.proofs.MachineLaws.{Ending, Alike, step-stays}
+use Rattle.walk.specs.Walk.{Machine, walk, foldList}
+use Rattle.walk.proofs.MachineLaws.{step, Ending, Alike, step-stays}
 use Rattle.walk.proofs.RunLaws.{Run, run-start, run-turn, run-end, run-fewer, run-less}
 
 -- How memories hold the states of a machine, and the folds that are written down in them.

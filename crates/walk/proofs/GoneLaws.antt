@@ -11,11 +11,9 @@ use borrow.Author.Tests.{ltb-true, eqb-false, ne-eqb, not-true}
 use Rattle.walk.specs.declared.Face.{Face}
 use Rattle.walk.specs.declared.Pair.{Pair}
 use Rattle.lists.specs.Lists.{those, every, below}
-use Rattle.walk.specs.Faces.{holds, both, shared, neighbour}
-use Rattle.walk.specs.Points.{Rules, Mesh}
+use Rattle.walk.specs.Faces.{holds, both, shared, neighbour, Rules, Mesh}
 use Rattle.walk.specs.Fold.{foldedFaces, foldedMesh}
-use Rattle.walk.specs.Machines.{walk}
-use Rattle.walk.specs.Walk.{State, Answer, folded, closed, ended, answer, after, plainMachine}
+use Rattle.walk.specs.Walk.{walk, State, Answer, folded, closed, ended, answer, after, plainMachine}
 use Rattle.walk.specs.Pairs.{pairOf, samePair, apart, eligiblePair, opened}
 use Rattle.walk.specs.Sound.{Sound}
 use Rattle.lists.proofs.TestLaws.{clash, left-of, right-of, neither-of}

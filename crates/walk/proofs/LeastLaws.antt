@@ -13,7 +13,7 @@ use lib.ListN.{length, getD, length-map, List·getD-map}
 use borrow.Author.Tests.{ltb-true, ltb-false, leb-true, lt-ltb, le-leb}
 use Rattle.walk.specs.declared.Pair.{Pair}
 use Rattle.lists.specs.Lists.{every, some, below, SameBag}
-use Rattle.walk.specs.Points.{Rules, Mesh}
+use Rattle.walk.specs.Faces.{Rules, Mesh}
 use Rattle.walk.specs.Pairs.{samePair, order, least}
 use Rattle.walk.specs.Walk.{tried, chosen}
 use Rattle.lists.proofs.EveryLaws.{every-from, some-from}

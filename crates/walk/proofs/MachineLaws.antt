@@ -7,7 +7,11 @@ use mathlib.Core.List.{[], _++_, append-assoc, append-nil}
 use native.Mathlib.Nat.{zero-add, suc-add, le-refl, le-dest}
 use native.Mathlib.Omega.{arith}
 use lib.ListN.{length, length-append}
-use Rattle.walk.specs.Machines.{Machine, step, walk, foldList}
+use Rattle.walk.specs.Walk.{Machine, walk, foldList}
+
+-- the state after a step
+abbrev pub step : {S A : Type 0} → Machine S A → S → S
+step machine s = machine .after s (machine .answer s)
 
 -- ---- what the laws ask of a machine
 

@@ -7,8 +7,7 @@ use mathlib.Core.Bool.{true, _&&_, cond}
 use lib.ListN.{length}
 use Rattle.walk.specs.declared.Pair.{Pair}
 use Rattle.lists.specs.Lists.{sum, some, below}
-use Rattle.walk.specs.Faces.{neighbour}
-use Rattle.walk.specs.Points.{Rules, Mesh}
+use Rattle.walk.specs.Faces.{neighbour, Rules, Mesh}
 use Rattle.walk.specs.Fold.{foldedMesh}
 use Rattle.walk.specs.Walk.{State, folded, closed, started, after}
 use Rattle.walk.specs.Pairs.{pairOf, samePair, apart, pairsBelow, rises, eligiblePair, opened}

@@ -12,8 +12,7 @@ use borrow.Author.Tests.{eqb-true, eqb-false, eq-eqb}
 use Rattle.walk.specs.declared.Face.{Face}
 use Rattle.walk.specs.declared.Pair.{Pair}
 use Rattle.lists.specs.Lists.{sum, count, those, below}
-use Rattle.walk.specs.Faces.{holds, both}
-use Rattle.walk.specs.Points.{Mesh, Rules}
+use Rattle.walk.specs.Faces.{holds, both, Mesh, Rules}
 use Rattle.walk.specs.Pairs.{pairOf, samePair, apart, pairsBelow, least, order}
 use Rattle.walk.specs.Sound.{joins}
 use Rattle.lists.proofs.TestLaws.{by-test, left-of, right-of, either-of, none-of-four, ends, by-twos}

@@ -7,8 +7,8 @@ use mathlib.Core.Logic.{_≢_}
 use mathlib.Core.List.{List, [], _++_}
 use lib.ListN.{length}
 use Rattle.walk.specs.declared.Pair.{Pair}
-use Rattle.walk.specs.Machines.{Machine, step, walk, foldList}
-use Rattle.walk.proofs.MachineLaws.{Ending, Alike, walk-last, foldList-last, walk-fewer, walk-over}
+use Rattle.walk.specs.Walk.{Machine, walk, foldList}
+use Rattle.walk.proofs.MachineLaws.{step, Ending, Alike, walk-last, foldList-last, walk-fewer, walk-over}
 
 -- from s₀ some steps have come to a state that passes for s, and folded the pairs of a list
 pub record Run {S A : Type 0} (machine : Machine S A) (Same : S → S → Type 0) (s₀ s : S) (folds : List Pair) : Type 0 where

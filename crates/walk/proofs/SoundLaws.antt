@@ -13,8 +13,7 @@ use borrow.Author.Tests.{ltb-true, lt-ltb, eqb-false, ne-eqb}
 use Rattle.walk.specs.declared.Face.{Face}
 use Rattle.walk.specs.declared.Pair.{Pair}
 use Rattle.lists.specs.Lists.{count, those, every, some, below}
-use Rattle.walk.specs.Faces.{both, shared, neighbour, runs, proper}
-use Rattle.walk.specs.Points.{Rules, Mesh}
+use Rattle.walk.specs.Faces.{both, shared, neighbour, runs, proper, Rules, Mesh}
 use Rattle.walk.specs.Fold.{foldedMesh}
 use Rattle.walk.specs.Walk.{State, folded, closed, started, after}
 use Rattle.walk.specs.Pairs.{pairOf, samePair, apart, rises, eligiblePair, pairsBelow, opened}

@@ -3,9 +3,8 @@
 use Prim.Native.Nat.{ℕ, _^_, _≤_}
 use mathlib.Core.Path.{_≡_, refl, ap, _∙_}
 use lib.ListN.{length}
-use Rattle.walk.specs.Points.{Rules}
-use Rattle.walk.specs.Machines.{walk, foldList}
-use Rattle.walk.specs.Walk.{State, SameState, budget, answer, plainMachine}
+use Rattle.walk.specs.Faces.{Rules}
+use Rattle.walk.specs.Walk.{walk, foldList, State, SameState, budget, answer, plainMachine}
 use Rattle.walk.specs.Sound.{Sound, heldBy, joins}
 use Rattle.lists.proofs.BagLaws.{bag-refl, bag-trans, bag-length, bag-every, bag-count}
 use Rattle.walk.proofs.BagWalk.{answer-bag, step-bag, sound-fitting}

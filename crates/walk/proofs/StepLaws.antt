@@ -13,8 +13,7 @@ use borrow.Author.Tests.{lt-leb}
 use Rattle.walk.specs.declared.Face.{Face}
 use Rattle.walk.specs.declared.Pair.{Pair}
 use Rattle.lists.specs.Lists.{sum, count}
-use Rattle.walk.specs.Faces.{both}
-use Rattle.walk.specs.Points.{Rules, Mesh}
+use Rattle.walk.specs.Faces.{both, Rules, Mesh}
 use Rattle.walk.specs.Fold.{foldedFaces, foldedMesh}
 use Rattle.walk.specs.FoldTest.{allowed}
 use Rattle.walk.specs.Walk.{State, Answer, folded, closed, ended, budget, tried, chosen, answer, after}

@@ -6,10 +6,9 @@ use mathlib.Core.Logic.{_≢_, _⊎_, inl, inr}
 use native.Mathlib.Nat.{le-refl}
 use native.Mathlib.Omega.{arith}
 use lib.ListN.{length, length-set}
-use Rattle.walk.specs.Points.{Rules}
+use Rattle.walk.specs.Faces.{Rules}
 use Rattle.walk.specs.Fold.{foldedMesh}
-use Rattle.walk.specs.Machines.{walk, foldList}
-use Rattle.walk.specs.Walk.{State, Answer, folded, closed, ended, foldOf, budget, answer, after, plainMachine}
+use Rattle.walk.specs.Walk.{walk, foldList, State, Answer, folded, closed, ended, foldOf, budget, answer, after, plainMachine}
 use Rattle.walk.specs.Sound.{Sound}
 use Rattle.walk.proofs.MachineLaws as machines
 use Rattle.walk.proofs.MachineLaws.{Ending}

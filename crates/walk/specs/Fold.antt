@@ -5,8 +5,7 @@ use lib.ListN.{set}
 use Rattle.lists.specs.Lists.{those}
 use Rattle.walk.specs.declared.Face.{Face}
 use Rattle.walk.specs.declared.Pair.{Pair}
-use Rattle.walk.specs.Faces.{both, renamedFace}
-use Rattle.walk.specs.Points.{Rules, Mesh, mergedOf}
+use Rattle.walk.specs.Faces.{both, renamedFace, Rules, Mesh, mergedOf}
 
 -- the faces after a fold: those that hold both are gone, and in the rest remove's number is keep's
 unfoldable pub foldedFaces : List Face → Pair → List Face

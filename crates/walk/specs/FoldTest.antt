@@ -6,8 +6,7 @@ use lib.ListN.{length}
 use Rattle.lists.specs.Lists.{every}
 use Rattle.walk.specs.declared.Face.{Face}
 use Rattle.walk.specs.declared.Pair.{Pair}
-use Rattle.walk.specs.Faces.{holds, both, shared, common}
-use Rattle.walk.specs.Points.{Rules, Mesh, dataOf, mergedOf}
+use Rattle.walk.specs.Faces.{holds, both, shared, common, Rules, Mesh, dataOf, mergedOf}
 
 module _ {D : Type 0} (rules : Rules D) where
   -- what a point carries after the fold, in a face that had keep or remove for it

@@ -7,8 +7,7 @@ use lib.ListN.{length}
 use Rattle.lists.specs.Lists.{those, some, below}
 use Rattle.walk.specs.declared.Face.{Face}
 use Rattle.walk.specs.declared.Pair.{Pair}
-use Rattle.walk.specs.Faces.{neighbour, runs}
-use Rattle.walk.specs.Points.{Rules, Mesh, dataOf}
+use Rattle.walk.specs.Faces.{neighbour, runs, Rules, Mesh, dataOf}
 
 -- a pair of two numbers, and whether two pairs are the same
 abbrev pub pairOf : ℕ → ℕ → Pair

@@ -1,5 +1,5 @@
 -- The plain walk: the meaning of thinning (document 01, "Pairs, folds, ends"). No heap, no stamps, every cost worked out anew.
-use Prim.Native.Nat.{ℕ, _+_, _*_}
+use Prim.Native.Nat.{ℕ, zero, suc, _+_, _*_}
 use mathlib.Core.Path.{_≡_}
 use mathlib.Core.List.{List, [], _∷_, _++_}
 use mathlib.Core.Bool.{_&&_, cond}
@@ -7,11 +7,30 @@ use lib.Dec.{leb}
 use lib.ListN.{length}
 use Rattle.lists.specs.Lists.{those, without, SameBag}
 use Rattle.walk.specs.declared.Pair.{Pair}
-use Rattle.walk.specs.Points.{Rules, Mesh}
+use Rattle.walk.specs.Faces.{Rules, Mesh}
 use Rattle.walk.specs.Pairs.{samePair, apart, pairsBelow, rises, eligiblePair, least, opened}
 use Rattle.walk.specs.FoldTest.{allowed}
 use Rattle.walk.specs.Fold.{foldedMesh}
-use Rattle.walk.specs.Machines.{Machine}
+
+-- ---- a machine, which takes one step after another. Each engine is one, with a state and answers of its own
+
+-- What a state answers, the state after an answer, the pairs that an answer folded, and the answer at the end.
+pub record Machine (S A : Type 0) : Type 0 where
+  pub answer : S → A
+  pub after : S → A → S
+  pub foldOf : A → List Pair
+  pub ended : A
+
+module _ {S A : Type 0} (machine : Machine S A) where
+  -- the walk: the step on a budget
+  unfoldable pub walk : ℕ → S → S
+  walk zero s = s
+  walk (suc n) s = walk n (machine .after s (machine .answer s))
+
+  -- the pairs folded on the way, in order
+  unfoldable pub foldList : ℕ → S → List Pair
+  foldList zero s = []
+  foldList (suc n) s = machine .foldOf (machine .answer s) ++ foldList n (machine .after s (machine .answer s))
 
 -- ---- the state, and one step
 

@@ -5,17 +5,8 @@ use Rattle.checks.proofs.FloatLaws.{nan-alone-differs}
 use Rattle.checks.proofs.bad_limit.Statement.{statement}
 use Rattle.checks.proofs.bad_limit.Tie as tie
 
-enum-told : tie.Need-enum-told
-enum-told c = search needs
-
-enum-known-limit : tie.Need-enum-known-limit
-enum-known-limit c = search needs
-
-returns : tie.Need-returns
-returns c = search needs
-
 returns-2 : tie.Need-returns-2
 returns-2 c = rw (c .before .limit .given .1) (nan-alone-differs _)
 
 pub bad-limit-spec : {M : Type 1} → statement M
-bad-limit-spec = tie.close (tie.spec enum-told enum-known-limit returns returns-2)
+bad-limit-spec = tie.close (tie.spec (λ c. search needs) (λ c. search needs) (λ c. search needs) returns-2)

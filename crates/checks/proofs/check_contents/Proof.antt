@@ -6,18 +6,6 @@ use Rattle.checks.proofs.ContentsLaws.{seven, copied, faces-decide}
 use Rattle.checks.proofs.check_contents.Statement.{statement}
 use Rattle.checks.proofs.check_contents.Tie as tie
 
-first-bad-requires : tie.Need-first-bad-requires
-first-bad-requires c κs = search needs
-
-cast-t9 : tie.Need-cast-t9
-cast-t9 c = search needs
-
-cast-check-faces : tie.Need-cast-check-faces
-cast-check-faces c = search needs
-
-check-faces-requires : tie.Need-check-faces-requires
-check-faces-requires c κs = search needs
-
 returns : tie.Need-returns
 returns c = seven _ _ _ _ (c .before .first-bad .ensures) (c .if1 .taken)
 
@@ -33,10 +21,10 @@ pub check-contents-spec : {M : Type 1} → statement M
 check-contents-spec =
     tie.close
     (tie.spec
-    first-bad-requires
-    cast-t9
-    cast-check-faces
-    check-faces-requires
+    (λ c κs. search needs)
+    (λ c. search needs)
+    (λ c. search needs)
+    (λ c κs. search needs)
     returns
     returns-2
     returns-3)

@@ -18,43 +18,30 @@ abbrev μ-loop : tie.MeasureT-loop
 loop-holds : tie.Need-loop-holds Inv-loop μ-loop
 loop-holds c = none-passed _ _ _
 
-face-at-requires : tie.Need-face-at-requires Inv-loop μ-loop
-face-at-requires c κs = omega arith
-
-is-outside-requires : tie.Need-is-outside-requires Inv-loop μ-loop
-is-outside-requires c κs = search needs
-
-cast-t9 : tie.Need-cast-t9 Inv-loop μ-loop
-cast-t9 c = search needs
-
 returns : tie.Need-returns Inv-loop μ-loop
 returns c =
     eight _ _ _ (c .before .before .before .before .loop .inv) (c .before .before .before .loop-test .taken)
     (c .before .is-outside .ensures ∙ ap (outside _) (c .before .before .face-at .ensures)) (c .if1 .taken)
 
-is-doubled-requires : tie.Need-is-doubled-requires Inv-loop μ-loop
-is-doubled-requires c κs = search needs
-
-cast-t11 : tie.Need-cast-t11 Inv-loop μ-loop
-cast-t11 c = search needs
-
 returns-2 : tie.Need-returns-2 Inv-loop μ-loop
 returns-2 c =
-    nine _ _ _ (c .before .before .before .before .before .before .loop .inv) (c .before .before .before .before .before .loop-test .taken)
-    (c .before .before .before .is-outside .ensures ∙ ap (outside _) (c .before .before .before .before .face-at .ensures)) (c .before .before .if1 .left)
-    (c .before .is-doubled .ensures ∙ ap doubled (c .before .before .before .before .face-at .ensures)) (c .if2 .taken)
-
-add-k : tie.Need-add-k Inv-loop μ-loop
-add-k c = search needs
-
-loop-less : tie.Need-loop-less Inv-loop μ-loop
-loop-less c = search needs
+    let after-is-outside = c .before .before .before in
+    let after-face-at = after-is-outside .before in
+    let test = after-face-at .before in
+    let turn = test .before in
+    nine _ _ _ (turn .loop .inv) (test .loop-test .taken)
+    (after-is-outside .is-outside .ensures ∙ ap (outside _) (after-face-at .face-at .ensures)) (c .before .before .if1 .left)
+    (c .before .is-doubled .ensures ∙ ap doubled (after-face-at .face-at .ensures)) (c .if2 .taken)
 
 loop-again : tie.Need-loop-again Inv-loop μ-loop
 loop-again c =
-    one-more-passed _ _ _ (c .before .before .before .before .before .before .loop .inv) (c .before .before .before .before .before .loop-test .taken)
-    (c .before .before .before .is-outside .ensures ∙ ap (outside _) (c .before .before .before .before .face-at .ensures)) (c .before .before .if1 .left)
-    (c .before .is-doubled .ensures ∙ ap doubled (c .before .before .before .before .face-at .ensures)) (c .if2 .left)
+    let after-is-outside = c .before .before .before in
+    let after-face-at = after-is-outside .before in
+    let test = after-face-at .before in
+    let turn = test .before in
+    one-more-passed _ _ _ (turn .loop .inv) (test .loop-test .taken)
+    (after-is-outside .is-outside .ensures ∙ ap (outside _) (after-face-at .face-at .ensures)) (c .before .before .if1 .left)
+    (c .before .is-doubled .ensures ∙ ap doubled (after-face-at .face-at .ensures)) (c .if2 .left)
 
 returns-3 : tie.Need-returns-3 Inv-loop μ-loop
 returns-3 c = all-passed _ _ _ (c .before .loop .inv) (c .loop-test .left)
@@ -66,14 +53,14 @@ check-faces-spec =
     Inv-loop
     μ-loop
     loop-holds
-    face-at-requires
-    is-outside-requires
-    cast-t9
+    (λ c κs. omega arith)
+    (λ c κs. search needs)
+    (λ c. search needs)
     returns
-    is-doubled-requires
-    cast-t11
+    (λ c κs. search needs)
+    (λ c. search needs)
     returns-2
-    add-k
-    loop-less
+    (λ c. search needs)
+    (λ c. search needs)
     loop-again
     returns-3)

@@ -19,23 +19,8 @@ abbrev μ-loop : tie.MeasureT-loop
 loop-holds : tie.Need-loop-holds Inv-loop μ-loop
 loop-holds c = start _ _ _
 
-mul-bad-coordinate : tie.Need-mul-bad-coordinate Inv-loop μ-loop
-mul-bad-coordinate c = search needs
-
-shared-slice-read-bad-coordinate : tie.Need-shared-slice-read-bad-coordinate Inv-loop μ-loop
-shared-slice-read-bad-coordinate c = search needs
-
-bad-coordinate-requires : tie.Need-bad-coordinate-requires Inv-loop μ-loop
-bad-coordinate-requires c κs = search needs
-
 returns : tie.Need-returns Inv-loop μ-loop
 returns c = found _ _ _ (c .before .before .before .before .loop .inv) (c .before .before .before .loop-test .taken) (sym (c .before .bad-coordinate .ensures) ∙ c .if1 .taken)
-
-add-k : tie.Need-add-k Inv-loop μ-loop
-add-k c = search needs
-
-loop-less : tie.Need-loop-less Inv-loop μ-loop
-loop-less c = search needs
 
 loop-again : tie.Need-loop-again Inv-loop μ-loop
 loop-again c = passed _ _ _ (c .before .before .before .before .loop .inv) (c .before .before .before .loop-test .taken) (sym (c .before .bad-coordinate .ensures) ∙ c .if1 .left)
@@ -50,11 +35,11 @@ first-bad-spec =
     Inv-loop
     μ-loop
     loop-holds
-    mul-bad-coordinate
-    shared-slice-read-bad-coordinate
-    bad-coordinate-requires
+    (λ c. search needs)
+    (λ c. search needs)
+    (λ c κs. search needs)
     returns
-    add-k
-    loop-less
+    (λ c. search needs)
+    (λ c. search needs)
     loop-again
     returns-2)

@@ -6,23 +6,8 @@ use Rattle.checks.proofs.OrderLaws.{decides, goes-on, found-not, not-la
 use Rattle.checks.proofs.verdict_of.Statement.{statement}
 use Rattle.checks.proofs.verdict_of.Tie as tie
 
-is-uneven-requires : tie.Need-is-uneven-requires
-is-uneven-requires c κs = search needs
-
-is-large-requires : tie.Need-is-large-requires
-is-large-requires c κs = search needs
-
 is-short-requires : tie.Need-is-short-requires
 is-short-requires c κs = not-large _ _ (search found-not)
-
-is-empty-requires : tie.Need-is-empty-requires
-is-empty-requires c κs = search needs
-
-bad-ratio-requires : tie.Need-bad-ratio-requires
-bad-ratio-requires c κs = search needs
-
-bad-limit-requires : tie.Need-bad-limit-requires
-bad-limit-requires c κs = search needs
 
 check-contents-requires : tie.Need-check-contents-requires
 check-contents-requires c κs = not-large _ _ (search found-not)
@@ -59,12 +44,12 @@ pub verdict-of-spec : {M : Type 1} → statement M
 verdict-of-spec =
     tie.close
     (tie.spec
-    is-uneven-requires
-    is-large-requires
+    (λ c κs. search needs)
+    (λ c κs. search needs)
     is-short-requires
-    is-empty-requires
-    bad-ratio-requires
-    bad-limit-requires
+    (λ c κs. search needs)
+    (λ c κs. search needs)
+    (λ c κs. search needs)
     check-contents-requires
     returns
     returns-2

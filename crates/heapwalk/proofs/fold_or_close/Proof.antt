@@ -50,27 +50,12 @@ fold-top-requires c κs =
     let at = c .before .before .before .before .before .before in
     rw (at .is-allowed .ensures .1) (entry (at .before) .pre)
 
-same-length : tie.Need-same-length
-same-length c = search needs
-
-same-length-2 : tie.Need-same-length-2
-same-length-2 c = search needs
-
-same-length-3 : tie.Need-same-length-3
-same-length-3 c = search needs
-
 returns : tie.Need-returns
 returns c =
     let done = c .before .before .before .before .before .before in
     let at = done .before .before .before .before .before .before .before in
     tried-by _ _ _ _ _ _ _ _ _ _ (at .is-allowed .result) true (done .before .before .before .before .if1 .taken) (allowed-told at)
     (rw (at .is-allowed .ensures .1) at (done .fold-top .ensures))
-
-same-length-4 : tie.Need-same-length-4
-same-length-4 c = search needs
-
-same-length-5 : tie.Need-same-length-5
-same-length-5 c = search needs
 
 returns-2 : tie.Need-returns-2
 returns-2 c =
@@ -85,10 +70,10 @@ fold-or-close-spec =
     (tie.spec
     is-allowed-requires
     fold-top-requires
-    same-length
-    same-length-2
-    same-length-3
+    (λ c. search needs)
+    (λ c. search needs)
+    (λ c. search needs)
     returns
-    same-length-4
-    same-length-5
+    (λ c. search needs)
+    (λ c. search needs)
     returns-2)

@@ -93,15 +93,6 @@ sub-left c =
     let at = at-fold (at-first (at-second (at-entering c .before))) in
     omega (arith, folded-live (entry (at .before) .pre .0) (fold-of at))
 
-same-length : tie.Need-same-length
-same-length c = search needs
-
-same-length-2 : tie.Need-same-length-2
-same-length-2 c = search needs
-
-same-length-3 : tie.Need-same-length-3
-same-length-3 c = search needs
-
 returns : tie.Need-returns
 returns c =
     let entering = at-entering c in
@@ -121,7 +112,7 @@ fold-top-spec =
     bump-requires-2
     enter-around-requires
     sub-left
-    same-length
-    same-length-2
-    same-length-3
+    (λ c. search needs)
+    (λ c. search needs)
+    (λ c. search needs)
     returns)

@@ -26,28 +26,10 @@ returns c =
     let s = c .before .before .before .before in
     at-target (s .pre) (s .args .target) (s .args .bounds .limit) (omega (arith, c .if1 .taken))
 
-take-current-requires : tie.Need-take-current-requires
-take-current-requires c κs = search needs
-
-enum-known-s : tie.Need-enum-known-s
-enum-known-s c = search needs
-
 try-top-requires : tie.Need-try-top-requires
 try-top-requires c κs =
     let s = entry (at-take c) in
     top-holds (s .pre) (s .args .target) (s .args .bounds .limit) (taken c)
-
-enum-told : tie.Need-enum-told
-enum-told c = search needs
-
-same-length : tie.Need-same-length
-same-length c = search needs
-
-same-length-2 : tie.Need-same-length-2
-same-length-2 c = search needs
-
-same-length-3 : tie.Need-same-length-3
-same-length-3 c = search needs
 
 returns-2 : tie.Need-returns-2
 returns-2 c =
@@ -55,12 +37,6 @@ returns-2 c =
     let at = at-take (done .before) in
     let s = entry at in
     taken-step (s .pre) (s .args .target) (s .args .bounds .limit) (taken (done .before)) (omega (arith, at .before .before .before .if1 .left)) (done .try-top .ensures)
-
-same-length-4 : tie.Need-same-length-4
-same-length-4 c = search needs
-
-same-length-5 : tie.Need-same-length-5
-same-length-5 c = search needs
 
 returns-3 : tie.Need-returns-3
 returns-3 c =
@@ -73,14 +49,14 @@ heap-step-spec =
     tie.close
     (tie.spec
     returns
-    take-current-requires
-    enum-known-s
+    (λ c κs. search needs)
+    (λ c. search needs)
     try-top-requires
-    enum-told
-    same-length
-    same-length-2
-    same-length-3
+    (λ c. search needs)
+    (λ c. search needs)
+    (λ c. search needs)
+    (λ c. search needs)
     returns-2
-    same-length-4
-    same-length-5
+    (λ c. search needs)
+    (λ c. search needs)
     returns-3)

@@ -5,23 +5,11 @@ use Rattle.heapwalk.proofs.HoldLaws.{start-holds, walk-done}
 use Rattle.heapwalk.proofs.heap_walk.Statement.{statement}
 use Rattle.heapwalk.proofs.heap_walk.Tie as tie
 
-enter-start-requires : tie.Need-enter-start-requires
-enter-start-requires c κs = search needs
-
 walk-on-requires : tie.Need-walk-on-requires
 walk-on-requires c κs =
     let entered = c .before .before .before .before .before .before .before .before .before in
     let s = entered .before .before .before .before .before .before .before in
     start-holds (s .args .bounds .limit) (s .args .bounds .size) (s .pre .0) (s .pre .1 .0) (entered .enter-start .ensures)
-
-same-length : tie.Need-same-length
-same-length c = search needs
-
-same-length-2 : tie.Need-same-length-2
-same-length-2 c = search needs
-
-same-length-3 : tie.Need-same-length-3
-same-length-3 c = search needs
 
 returns : tie.Need-returns
 returns c =
@@ -31,4 +19,4 @@ returns c =
     walk-done (s .args .bounds .limit) (s .args .bounds .size) (s .pre .0) (s .pre .1 .0) (entered .enter-start .ensures) (walked .walk-on .ensures)
 
 pub heap-walk-spec : {M : Type 1} → statement M
-heap-walk-spec = tie.close (tie.spec enter-start-requires walk-on-requires same-length same-length-2 same-length-3 returns)
+heap-walk-spec = tie.close (tie.spec (λ c κs. search needs) walk-on-requires (λ c. search needs) (λ c. search needs) (λ c. search needs) returns)

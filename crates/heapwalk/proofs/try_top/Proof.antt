@@ -18,18 +18,6 @@ at-keep c = c .before .before
 abbrev entry : tie.After-keep-at → tie.Start
 entry c = c .before .before .before .before .before
 
-keep-at-requires : tie.Need-keep-at-requires
-keep-at-requires c κs = search needs
-
-remove-at-requires : tie.Need-remove-at-requires
-remove-at-requires c κs = search needs
-
-add-point-at : tie.Need-add-point-at
-add-point-at c = search needs
-
-point-at-requires : tie.Need-point-at-requires
-point-at-requires c κs = search needs
-
 try-pair-requires : tie.Need-try-pair-requires
 try-pair-requires c κs =
     let place = at-place c in
@@ -39,15 +27,6 @@ try-pair-requires c κs =
     let a = s .args in
     top-pair (a .v) (a .f) (a .w .now) (a .p .now) (a .q .now) (a .entries) (a .s) (keep .keep-at .ensures) (remove .remove-at .ensures)
     (place .point-at .ensures) (s .pre)
-
-same-length : tie.Need-same-length
-same-length c = search needs
-
-same-length-2 : tie.Need-same-length-2
-same-length-2 c = search needs
-
-same-length-3 : tie.Need-same-length-3
-same-length-3 c = search needs
 
 returns : tie.Need-returns
 returns c =
@@ -62,12 +41,12 @@ pub try-top-spec : {M : Type 1} → statement M
 try-top-spec =
     tie.close
     (tie.spec
-    keep-at-requires
-    remove-at-requires
-    add-point-at
-    point-at-requires
+    (λ c κs. search needs)
+    (λ c κs. search needs)
+    (λ c. search needs)
+    (λ c κs. search needs)
     try-pair-requires
-    same-length
-    same-length-2
-    same-length-3
+    (λ c. search needs)
+    (λ c. search needs)
+    (λ c. search needs)
     returns)

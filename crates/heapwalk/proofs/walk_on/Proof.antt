@@ -24,9 +24,6 @@ loop-holds c =
 heap-step-requires : tie.Need-heap-step-requires Inv-loop μ-loop
 heap-step-requires c κs = c .before .before .before .loop .inv .going .holds
 
-enum-known-step : tie.Need-enum-known-step Inv-loop μ-loop
-enum-known-step c = search needs
-
 note-fold-requires : tie.Need-note-fold-requires Inv-loop μ-loop
 note-fold-requires c κs =
     let stepped = c .before .before .before .before .before .before .before .before .before .before in
@@ -51,9 +48,6 @@ loop-again c =
     rw (noted .note-fold .ensures)
     (turn-folded (stepped .before .before .before .before .loop .inv) (heap-step (stepped .heap-step .ensures)) (noted .before .before .before .step .given .1))
 
-enum-told : tie.Need-enum-told Inv-loop μ-loop
-enum-told c = search needs
-
 loop-less-2 : tie.Need-loop-less-2 Inv-loop μ-loop
 loop-less-2 c =
     let stepped = c .before .before .before .before .before .before .before .before in
@@ -63,18 +57,6 @@ loop-again-2 : tie.Need-loop-again-2 Inv-loop μ-loop
 loop-again-2 c =
     let stepped = c .before .before .before .before .before .before .before .before in
     turn-closed (stepped .before .before .before .before .loop .inv) (heap-step (stepped .heap-step .ensures)) (c .enum-told .given .1)
-
-enum-told-2 : tie.Need-enum-told-2 Inv-loop μ-loop
-enum-told-2 c = search needs
-
-same-length : tie.Need-same-length Inv-loop μ-loop
-same-length c = search needs
-
-same-length-2 : tie.Need-same-length-2 Inv-loop μ-loop
-same-length-2 c = search needs
-
-same-length-3 : tie.Need-same-length-3 Inv-loop μ-loop
-same-length-3 c = search needs
 
 returns : tie.Need-returns Inv-loop μ-loop
 returns c =
@@ -89,16 +71,16 @@ walk-on-spec =
     μ-loop
     loop-holds
     heap-step-requires
-    enum-known-step
+    (λ c. search needs)
     note-fold-requires
     add-folds
     loop-less
     loop-again
-    enum-told
+    (λ c. search needs)
     loop-less-2
     loop-again-2
-    enum-told-2
-    same-length
-    same-length-2
-    same-length-3
+    (λ c. search needs)
+    (λ c. search needs)
+    (λ c. search needs)
+    (λ c. search needs)
     returns)

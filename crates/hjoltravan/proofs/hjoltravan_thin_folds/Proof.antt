@@ -6,15 +6,6 @@ use Rattle.hjoltravan.proofs.CallLaws.{called-with-folds}
 use Rattle.hjoltravan.proofs.hjoltravan_thin_folds.Statement.{statement}
 use Rattle.hjoltravan.proofs.hjoltravan_thin_folds.Tie as tie
 
-options-of-requires : tie.Need-options-of-requires
-options-of-requires c κs = search needs
-
-thin-requires : tie.Need-thin-requires
-thin-requires c κs = search needs
-
-tell-requires : tie.Need-tell-requires
-tell-requires c κs = search needs
-
 same-length : tie.Need-same-length
 same-length c = c .before .before .before .before .before .before .before .before .before .before .before .before .before .out-points .given
 
@@ -45,9 +36,9 @@ pub hjoltravan-thin-folds-spec : {M : Type 1} → statement M
 hjoltravan-thin-folds-spec =
     tie.close
     (tie.spec
-    options-of-requires
-    thin-requires
-    tell-requires
+    (λ c κs. search needs)
+    (λ c κs. search needs)
+    (λ c κs. search needs)
     same-length
     same-length-2
     same-length-3

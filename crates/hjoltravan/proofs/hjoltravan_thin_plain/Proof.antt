@@ -6,18 +6,6 @@ use Rattle.hjoltravan.proofs.CallLaws.{called}
 use Rattle.hjoltravan.proofs.hjoltravan_thin_plain.Statement.{statement}
 use Rattle.hjoltravan.proofs.hjoltravan_thin_plain.Tie as tie
 
-options-of-requires : tie.Need-options-of-requires
-options-of-requires c κs = search needs
-
-slice-aggregate-thin : tie.Need-slice-aggregate-thin
-slice-aggregate-thin c = search needs
-
-thin-requires : tie.Need-thin-requires
-thin-requires c κs = search needs
-
-tell-requires : tie.Need-tell-requires
-tell-requires c κs = search needs
-
 same-length : tie.Need-same-length
 same-length c = c .before .before .before .before .before .before .before .before .before .before .before .before .out-points .given
 
@@ -45,10 +33,10 @@ pub hjoltravan-thin-plain-spec : {M : Type 1} → statement M
 hjoltravan-thin-plain-spec =
     tie.close
     (tie.spec
-    options-of-requires
-    slice-aggregate-thin
-    thin-requires
-    tell-requires
+    (λ c κs. search needs)
+    (λ c. search needs)
+    (λ c κs. search needs)
+    (λ c κs. search needs)
     same-length
     same-length-2
     same-length-3

@@ -4,11 +4,8 @@ use borrow.Author.Needs.{needs}
 use Rattle.hjoltravan.proofs.options_of.Statement.{statement}
 use Rattle.hjoltravan.proofs.options_of.Tie as tie
 
-limit-of-requires : tie.Need-limit-of-requires
-limit-of-requires c κs = search needs
-
 returns : tie.Need-returns
 returns c = rw (c .limit-of .ensures)
 
 pub options-of-spec : {M : Type 1} → statement M
-options-of-spec = tie.close (tie.spec limit-of-requires returns)
+options-of-spec = tie.close (tie.spec (λ c κs. search needs) returns)

@@ -5,7 +5,7 @@ use mathlib.Core.Bool.{Bool, true, false, _&&_}
 use lib.ListN.{length}
 use Rattle.walk.specs.declared.Pair.{Pair}
 use Rattle.lists.specs.Lists.{those, below}
-use Rattle.walk.specs.Points.{Rules, Mesh}
+use Rattle.walk.specs.Faces.{Rules, Mesh}
 use Rattle.walk.specs.Pairs.{pairOf, rises, eligiblePair, opened}
 
 module _ {D : Type 0} (rules : Rules D) (m : Mesh D) where

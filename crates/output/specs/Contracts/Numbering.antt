@@ -8,10 +8,10 @@ use lib.ListN.{length, set}
 use lib.Ieee.{Float}
 use Rattle.geometry.specs.declared.Point.{Point}
 use Rattle.walk.specs.declared.Face.{Face}
-use Rattle.lists.specs.Lists.{count, some, every}
+use Rattle.lists.specs.Lists.{count, some, every, overlaid}
 use Rattle.walk.specs.Output.{noted, used, placeIn, renumbered, numbersOf}
 use Rattle.memory.specs.Memory.{mark}
-use Rattle.lists.specs.Frames.{But, overlaid}
+use Rattle.lists.specs.Frames.{But}
 use Rattle.memory.specs.Points.{partsOf}
 use Rattle.output.specs.declared.Counts.{Counts}
 use Rattle.output.specs.declared.writing.NewNumber.{NewNumber}

@@ -6,7 +6,8 @@ use lib.ListN.{length}
 use lib.Ieee.{Float}
 use Rattle.walk.specs.Output.{used, renumbered, numbersOf}
 use Rattle.memory.specs.Memory.{liveFaces}
-use Rattle.lists.specs.Frames.{But, overlaid}
+use Rattle.lists.specs.Frames.{But}
+use Rattle.lists.specs.Lists.{overlaid}
 use Rattle.memory.specs.Points.{partsOf}
 use Rattle.output.specs.declared.Counts.{Counts}
 use Rattle.memory.specs.Layout.{marksFrom, stampsFrom}

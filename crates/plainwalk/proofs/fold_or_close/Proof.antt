@@ -50,34 +50,22 @@ fold-pair-requires c κs =
     let s = entry (at .before) in
     rw (at .is-allowed .ensures .1) (s .pre)
 
-same-length : tie.Need-same-length
-same-length c = search needs
-
-same-length-2 : tie.Need-same-length-2
-same-length-2 c = search needs
-
-same-length-3 : tie.Need-same-length-3
-same-length-3 c = search needs
-
 returns : tie.Need-returns
 returns c =
-    let at = c .before .before .before .before .before .before .before .before .before .before .before .before .before in
+    let after-fold-pair = c .before .before .before .before .before .before in
+    let branch-if1 = after-fold-pair .before .before .before .before in
+    let after-place = branch-if1 .before .before .before in
+    let at = after-place in
     let s = entry (at .before) in
-    tried-folded _ _ _ _ _ _ (s .args .least) (s .args .bounds .limit) (s .args .bounds .size) (at .is-allowed .result) (c .before .before .before .before .before .before .before .before .before .before .if1 .taken)
+    tried-folded _ _ _ _ _ _ (s .args .least) (s .args .bounds .limit) (s .args .bounds .size) (at .is-allowed .result) (branch-if1 .if1 .taken)
     (allowed-told at)
-    (rw (at .is-allowed .ensures .1) at (c .before .before .before .before .before .before .fold-pair .ensures))
+    (rw (at .is-allowed .ensures .1) at (after-fold-pair .fold-pair .ensures))
 
 close-pair-requires : tie.Need-close-pair-requires
 close-pair-requires c κs =
     let at = c .before .before .before .before in
     let s = entry (at .before) in
     rw (at .is-allowed .ensures .1) (s .pre .1 .0 .within, (open-few (s .pre .0), s .pre .0 .tidy .room))
-
-same-length-4 : tie.Need-same-length-4
-same-length-4 c = search needs
-
-same-length-5 : tie.Need-same-length-5
-same-length-5 c = search needs
 
 returns-2 : tie.Need-returns-2
 returns-2 c =
@@ -93,11 +81,11 @@ fold-or-close-spec =
     (tie.spec
     is-allowed-requires
     fold-pair-requires
-    same-length
-    same-length-2
-    same-length-3
+    (λ c. search needs)
+    (λ c. search needs)
+    (λ c. search needs)
     returns
     close-pair-requires
-    same-length-4
-    same-length-5
+    (λ c. search needs)
+    (λ c. search needs)
     returns-2)

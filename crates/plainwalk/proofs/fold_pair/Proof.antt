@@ -60,22 +60,15 @@ sub-left c =
     let s = entry (at .before) in
     omega (arith, folded-live (s .pre .0) (at .fold-mesh .ensures (s .args .bounds .limit) (s .args .bounds .size) (s .pre .1 .0 .place)))
 
-same-length : tie.Need-same-length
-same-length c = search needs
-
-same-length-2 : tie.Need-same-length-2
-same-length-2 c = search needs
-
-same-length-3 : tie.Need-same-length-3
-same-length-3 c = search needs
-
 returns : tie.Need-returns
 returns c =
-    let at = c .before .before .before .before .before .before .before .before .before .before .before .before .before .before .before .before in
+    let after-drop-pairs = c .before .before .before .before .before .before .before .before in
+    let after-place = after-drop-pairs .before .before .before .before .before .before .before .before in
+    let at = after-place in
     let s = entry (at .before) in
     let h = s .pre .0 in
     let found = s .pre .1 .0 in
-    folded-done h (at .fold-mesh .ensures (s .args .bounds .limit) (s .args .bounds .size) (found .place)) (c .before .before .before .before .before .before .before .before .drop-pairs .ensures) (found-open h found)
+    folded-done h (at .fold-mesh .ensures (s .args .bounds .limit) (s .args .bounds .size) (found .place)) (after-drop-pairs .drop-pairs .ensures) (found-open h found)
     (c .before .before .open-neighbours .ensures)
 
 pub fold-pair-spec : {M : Type 1} → statement M
@@ -86,7 +79,7 @@ fold-pair-spec =
     drop-pairs-requires
     open-neighbours-requires
     sub-left
-    same-length
-    same-length-2
-    same-length-3
+    (λ c. search needs)
+    (λ c. search needs)
+    (λ c. search needs)
     returns)

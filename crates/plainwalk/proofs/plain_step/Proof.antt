@@ -30,15 +30,6 @@ try-pair-requires c κs =
       record { within = least .within; same-pair = least .same-pair; place = least .place },
     )
 
-same-length : tie.Need-same-length
-same-length c = search needs
-
-same-length-2 : tie.Need-same-length-2
-same-length-2 c = search needs
-
-same-length-3 : tie.Need-same-length-3
-same-length-3 c = search needs
-
 returns-3 : tie.Need-returns-3
 returns-3 c =
     let tried = c .before .before .before .before .before .before in
@@ -56,7 +47,7 @@ plain-step-spec =
     returns-2
     least-pair-requires
     try-pair-requires
-    same-length
-    same-length-2
-    same-length-3
+    (λ c. search needs)
+    (λ c. search needs)
+    (λ c. search needs)
     returns-3)

@@ -15,15 +15,6 @@ walk-on-requires c κs =
     start-holds (s .args .p .now) (s .args .q .now) (s .args .bounds .limit) (s .args .bounds .size) (s .pre .0) (s .pre .1 .0) (s .pre .1 .1 .0) (s .pre .1 .1 .1)
     (opened .open-start .ensures)
 
-same-length : tie.Need-same-length
-same-length c = search needs
-
-same-length-2 : tie.Need-same-length-2
-same-length-2 c = search needs
-
-same-length-3 : tie.Need-same-length-3
-same-length-3 c = search needs
-
 returns : tie.Need-returns
 returns c =
     let walked = c .before .before .before .before .before .before in
@@ -33,4 +24,4 @@ returns c =
     (opened .open-start .ensures) (walked .walk-on .ensures)
 
 pub plain-walk-spec : {M : Type 1} → statement M
-plain-walk-spec = tie.close (tie.spec open-start-requires walk-on-requires same-length same-length-2 same-length-3 returns)
+plain-walk-spec = tie.close (tie.spec open-start-requires walk-on-requires (λ c. search needs) (λ c. search needs) (λ c. search needs) returns)

@@ -5,7 +5,7 @@ use native.Mathlib.Omega.{arith}
 use mathlib.Core.Path.{ap, _∙_}
 use mathlib.Core.List.{List, map-id}
 use Rattle.scanfile.specs.Contents.{faceNumbersOf}
-use Rattle.lists.specs.Frames.{overlaid}
+use Rattle.lists.specs.Lists.{overlaid}
 use Rattle.scanfile.proofs.ContentLaws.{Reading, start, turn, done}
 use Rattle.scanfile.proofs.read_faces.Statement.{statement}
 use Rattle.scanfile.proofs.read_faces.Tie as tie

@@ -8,26 +8,8 @@ use Rattle.thin.proofs.ReplyLaws.{refused-text, mesh-text}
 use Rattle.thin.proofs.write_answer.Statement.{statement}
 use Rattle.thin.proofs.write_answer.Tie as tie
 
-write-refusal-requires : tie.Need-write-refusal-requires
-write-refusal-requires c κs = search needs
-
-same-length : tie.Need-same-length
-same-length c = search needs
-
 returns : tie.Need-returns
 returns c = rw (refused-text _ _ _ (c .before .before .before .before .if1 .taken)) (c .before .before .write-refusal .ensures)
-
-cast-points-end : tie.Need-cast-points-end
-cast-points-end c = search needs
-
-mul-points-end : tie.Need-mul-points-end
-mul-points-end c = search needs
-
-cast-faces-end : tie.Need-cast-faces-end
-cast-faces-end c = search needs
-
-mul-faces-end : tie.Need-mul-faces-end
-mul-faces-end c = search needs
 
 slice-aggregate-write-mesh : tie.Need-slice-aggregate-write-mesh
 slice-aggregate-write-mesh c = sym (length-take-le _ _ (c .before .before .before .before .before .before .before .before .before .pre .1 .points-there))
@@ -37,17 +19,15 @@ slice-aggregate-write-mesh-2 c = sym (length-take-le _ _ (c .before .before .bef
 
 write-mesh-requires : tie.Need-write-mesh-requires
 write-mesh-requires c κs =
-    let a = c .before .before .before .before .before .before .before .before .before .before .args in
-    let there = c .before .before .before .before .before .before .before .before .before .before .pre .1 in (
+    let start = c .before .before .before .before .before .before .before .before .before .before in
+    let a = start .args in
+    let there = start .pre .1 in (
       search needs,
       (
         omega (arith, length-take-le (3 * a .answer .points) (a .points .now) (there .points-there)),
         omega (arith, length-take-le (3 * a .answer .faces) (a .faces .now) (there .faces-there)),
       ),
     )
-
-same-length-2 : tie.Need-same-length-2
-same-length-2 c = search needs
 
 returns-2 : tie.Need-returns-2
 returns-2 c = rw (mesh-text _ _ _ (c .before .before .before .before .before .before .before .before .if1 .left)) (c .before .before .write-mesh .ensures)
@@ -56,15 +36,15 @@ pub write-answer-spec : {M : Type 1} → statement M
 write-answer-spec =
     tie.close
     (tie.spec
-    write-refusal-requires
-    same-length
+    (λ c κs. search needs)
+    (λ c. search needs)
     returns
-    cast-points-end
-    mul-points-end
-    cast-faces-end
-    mul-faces-end
+    (λ c. search needs)
+    (λ c. search needs)
+    (λ c. search needs)
+    (λ c. search needs)
     slice-aggregate-write-mesh
     slice-aggregate-write-mesh-2
     write-mesh-requires
-    same-length-2
+    (λ c. search needs)
     returns-2)

@@ -30,20 +30,8 @@ faces-there c =
     over-there (faceNumbersOf (a .bytes .now) (a .head .points) (a .head .faces)) (c .before .before .before .before .before .face-cells .result) (3 * a .head .faces)
     (faces-length (a .bytes .now) (a .head .points) (a .head .faces)) (c .read-faces .ensures)
 
-point-cells-requires : tie.Need-point-cells-requires
-point-cells-requires c κs = search needs
-
-face-cells-requires : tie.Need-face-cells-requires
-face-cells-requires c κs = search needs
-
-slice-aggregate-read-points : tie.Need-slice-aggregate-read-points
-slice-aggregate-read-points c = search needs
-
 read-points-requires : tie.Need-read-points-requires
 read-points-requires c κs = let g = good (c .before .before .before .before .before) in record { there = omega arith; room = omega arith }
-
-slice-aggregate-read-faces : tie.Need-slice-aggregate-read-faces
-slice-aggregate-read-faces c = search needs
 
 read-faces-requires : tie.Need-read-faces-requires
 read-faces-requires c κs = let g = good (c .before .before .before .before .before .before .before .before) in record { there = omega arith; room = omega arith }
@@ -66,33 +54,32 @@ array-share-prefix-faces c = faces-there (c .before .before .before)
 slice-aggregate-write-thinned-2 : tie.Need-slice-aggregate-write-thinned-2
 slice-aggregate-write-thinned-2 c = sym (length-take-le _ _ (faces-there (c .before .before .before .before)))
 
-write-thinned-requires : tie.Need-write-thinned-requires
-write-thinned-requires c κs = search needs
-
-same-length : tie.Need-same-length
-same-length c = search needs
-
 returns : tie.Need-returns
 unfolding replyBy
 returns c =
-    let a = c .before .before .before .before .before .before .before .before .before .before .before .before .before .before .before .before .args in
+    let after-read-faces = c .before .before .before .before .before .before .before in
+    let after-read-points = after-read-faces .before .before .before in
+    let after-face-cells = after-read-points .before .before in
+    let after-point-cells = after-face-cells .before in
+    let start = after-point-cells .before .before .before in
+    let a = start .args in
     let points = pointsOf (a .bytes .now) (a .head .points) in
     let faces = faceNumbersOf (a .bytes .now) (a .head .points) (a .head .faces) in
-    let points-are = over-taken points (c .before .before .before .before .before .before .before .before .before .before .before .before .before .point-cells .result) (3 * a .head .points)
-    (points-length (a .bytes .now) (a .head .points)) (c .before .before .before .before .before .before .before .before .before .before .read-points .ensures) in
-    let faces-are = over-taken faces (c .before .before .before .before .before .before .before .before .before .before .before .before .face-cells .result) (3 * a .head .faces)
-    (faces-length (a .bytes .now) (a .head .points) (a .head .faces)) (c .before .before .before .before .before .before .before .read-faces .ensures) in
+    let points-are = over-taken points (after-point-cells .point-cells .result) (3 * a .head .points)
+    (points-length (a .bytes .now) (a .head .points)) (after-read-points .read-points .ensures) in
+    let faces-are = over-taken faces (after-face-cells .face-cells .result) (3 * a .head .faces)
+    (faces-length (a .bytes .now) (a .head .points) (a .head .faces)) (after-read-faces .read-faces .ensures) in
     rw (points-are, faces-are) at (c .before .before .write-thinned .ensures)
 
 pub write-good-spec : {M : Type 1} → statement M
 write-good-spec =
     tie.close
     (tie.spec
-    point-cells-requires
-    face-cells-requires
-    slice-aggregate-read-points
+    (λ c κs. search needs)
+    (λ c κs. search needs)
+    (λ c. search needs)
     read-points-requires
-    slice-aggregate-read-faces
+    (λ c. search needs)
     read-faces-requires
     mul-points-end
     mul-faces-end
@@ -100,6 +87,6 @@ write-good-spec =
     slice-aggregate-write-thinned
     array-share-prefix-faces
     slice-aggregate-write-thinned-2
-    write-thinned-requires
-    same-length
+    (λ c κs. search needs)
+    (λ c. search needs)
     returns)

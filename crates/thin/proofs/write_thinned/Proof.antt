@@ -36,48 +36,6 @@ same c =
     same-call (start c .args .head) (start c .args .points .now) (start c .args .faces .now) (memory c)
     (m .before .before .before .before .point-cells .ensures) (m .before .before .before .face-cells .ensures) (m .before .before .work-u32-cells .ensures) (m .before .work-f32-cells .ensures) (m .work-f64-cells .ensures)
 
-point-cells-requires : tie.Need-point-cells-requires
-point-cells-requires c κs = search needs
-
-face-cells-requires : tie.Need-face-cells-requires
-face-cells-requires c κs = search needs
-
-work-u32-cells-requires : tie.Need-work-u32-cells-requires
-work-u32-cells-requires c κs = search needs
-
-work-f32-cells-requires : tie.Need-work-f32-cells-requires
-work-f32-cells-requires c κs = search needs
-
-work-f64-cells-requires : tie.Need-work-f64-cells-requires
-work-f64-cells-requires c κs = search needs
-
-slice-aggregate-thin : tie.Need-slice-aggregate-thin
-slice-aggregate-thin c = search needs
-
-slice-aggregate-thin-2 : tie.Need-slice-aggregate-thin-2
-slice-aggregate-thin-2 c = search needs
-
-slice-aggregate-thin-3 : tie.Need-slice-aggregate-thin-3
-slice-aggregate-thin-3 c = search needs
-
-slice-aggregate-thin-4 : tie.Need-slice-aggregate-thin-4
-slice-aggregate-thin-4 c = search needs
-
-slice-aggregate-thin-5 : tie.Need-slice-aggregate-thin-5
-slice-aggregate-thin-5 c = search needs
-
-slice-aggregate-thin-6 : tie.Need-slice-aggregate-thin-6
-slice-aggregate-thin-6 c = search needs
-
-thin-requires : tie.Need-thin-requires
-thin-requires c κs = search needs
-
-slice-aggregate-write-answer : tie.Need-slice-aggregate-write-answer
-slice-aggregate-write-answer c = search needs
-
-slice-aggregate-write-answer-2 : tie.Need-slice-aggregate-write-answer-2
-slice-aggregate-write-answer-2 c = search needs
-
 write-answer-requires : tie.Need-write-answer-requires
 write-answer-requires c κs =
     let called = c .before .before .before .before .before .before .before .before .before in
@@ -85,9 +43,6 @@ write-answer-requires c κs =
       start called .pre,
       shown (outcomeHere called) (counted (callHere called)) _ _ (left .answered) (left .points-out) (left .faces-out) (search needs) (search needs),
     )
-
-same-length : tie.Need-same-length
-same-length c = search needs
 
 returns : tie.Need-returns
 returns c =
@@ -100,20 +55,20 @@ pub write-thinned-spec : {M : Type 1} → statement M
 write-thinned-spec =
     tie.close
     (tie.spec
-    point-cells-requires
-    face-cells-requires
-    work-u32-cells-requires
-    work-f32-cells-requires
-    work-f64-cells-requires
-    slice-aggregate-thin
-    slice-aggregate-thin-2
-    slice-aggregate-thin-3
-    slice-aggregate-thin-4
-    slice-aggregate-thin-5
-    slice-aggregate-thin-6
-    thin-requires
-    slice-aggregate-write-answer
-    slice-aggregate-write-answer-2
+    (λ c κs. search needs)
+    (λ c κs. search needs)
+    (λ c κs. search needs)
+    (λ c κs. search needs)
+    (λ c κs. search needs)
+    (λ c. search needs)
+    (λ c. search needs)
+    (λ c. search needs)
+    (λ c. search needs)
+    (λ c. search needs)
+    (λ c. search needs)
+    (λ c κs. search needs)
+    (λ c. search needs)
+    (λ c. search needs)
     write-answer-requires
-    same-length
+    (λ c. search needs)
     returns)

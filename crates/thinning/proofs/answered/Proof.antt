@@ -4,7 +4,7 @@ use mathlib.Core.Path.{refl}
 use borrow.Author.Needs.{needs}
 use Rattle.lists.proofs.FrameLaws.{but-refl}
 use Rattle.thinning.proofs.MemoryLaws.{used-fits, live-fits, written-finished}
-use Rattle.thinning.proofs.SizeLaws.{below-fits}
+use Rattle.walking.proofs.FitLaws.{below-fits}
 use Rattle.thinning.proofs.answered.Statement.{statement}
 use Rattle.thinning.proofs.answered.Tie as tie
 
@@ -15,14 +15,8 @@ thinned c = c .before .before .before .before
 abbrev entry : tie.After-write-mesh → tie.Start
 entry c = thinned c .before .before .before .before .before .before .before
 
-stuck-requires : tie.Need-stuck-requires
-stuck-requires c κs = search needs
-
 returns : tie.Need-returns
 returns c = rw (c .before .if1 .taken) (record { but = but-refl _ _ _; answered = c .stuck .ensures; points-out = refl; faces-out = refl })
-
-write-mesh-requires : tie.Need-write-mesh-requires
-write-mesh-requires c κs = search needs
 
 cast-t18 : tie.Need-cast-t18
 cast-t18 c = let call = c .before .before .before .before .before .before .before in used-fits (entry call .pre .0) (call .write-mesh .ensures .points-counted)
@@ -51,9 +45,9 @@ pub answered-spec : {M : Type 1} → statement M
 answered-spec =
     tie.close
     (tie.spec
-    stuck-requires
+    (λ c κs. search needs)
     returns
-    write-mesh-requires
+    (λ c κs. search needs)
     cast-t18
     cast-t19
     cast-t20

@@ -2,16 +2,13 @@
 -- Assumes nothing.
 use mathlib.Core.Path.{refl}
 use borrow.Author.Needs.{needs}
-use Rattle.thinning.proofs.SizeLaws.{points-fit, few-fits}
+use Rattle.walking.proofs.FitLaws.{points-fit, few-fits}
 use Rattle.thinning.proofs.copied.Statement.{statement}
 use Rattle.thinning.proofs.copied.Tie as tie
 
 -- the function's entry, from its end
 abbrev entry : tie.After-slice-known10 → tie.Start
 entry c = c .before .before .before .before .before .before .before .before .before .before .before .before .before .before .before .before .before .before .before .before .before .before .before .before
-
-copy-mesh-requires : tie.Need-copy-mesh-requires
-copy-mesh-requires c κs = search needs
 
 clear-requires : tie.Need-clear-requires
 clear-requires c κs = let start = c .before .before .before .before .before .before .before .before .before .before .before .before .before .before .before .before .before in start .pre .working
@@ -55,7 +52,7 @@ pub copied-spec : {M : Type 1} → statement M
 copied-spec =
     tie.close
     (tie.spec
-    copy-mesh-requires
+    (λ c κs. search needs)
     clear-requires
     cast-t22
     cast-t23

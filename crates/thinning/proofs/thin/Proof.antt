@@ -26,26 +26,11 @@ input c = inputOf (c .args .points .now) (c .args .faces .now) (c .args .options
 is-copied : (c : tie.After-enum-told) → Copied ≡ verdictOf (input (entry (c .before .before)))
 is-copied c = sym (c .enum-told .given .1) ∙ c .before .before .verdict-of .ensures
 
-verdict-of-requires : tie.Need-verdict-of-requires
-verdict-of-requires c κs = search needs
-
-enum-known-number : tie.Need-enum-known-number
-enum-known-number c = search needs
-
-refusal-requires : tie.Need-refusal-requires
-refusal-requires c κs = search needs
-
-enum-told : tie.Need-enum-told
-enum-told c = search needs
-
 copied-requires : tie.Need-copied-requires
 copied-requires c κs =
     let known = c .before .before .before .before .before in
     let start = entry (known .before .before) in
     measured (start .args .points .now) (start .args .faces .now) (start .args .options) (buffers start) (verdicts.copied (input start) (sym (is-copied known)) .sized)
-
-enum-told-2 : tie.Need-enum-told-2
-enum-told-2 c = search needs
 
 admitted-requires : tie.Need-admitted-requires
 admitted-requires c κs =
@@ -104,12 +89,12 @@ pub thin-spec : {M : Type 1} → statement M
 thin-spec =
     tie.close
     (tie.spec
-    verdict-of-requires
-    enum-known-number
-    refusal-requires
-    enum-told
+    (λ c κs. search needs)
+    (λ c. search needs)
+    (λ c κs. search needs)
+    (λ c. search needs)
     copied-requires
-    enum-told-2
+    (λ c. search needs)
     admitted-requires
     returns
     same-length

@@ -10,18 +10,6 @@ use Rattle.placement.specs.Choices.{kindOf}
 use Rattle.memory.proofs.points.vertex_at.Statement.{statement}
 use Rattle.memory.proofs.points.vertex_at.Tie as tie
 
-point-at-requires : tie.Need-point-at-requires
-point-at-requires c κs = search needs
-
-quadric-at-requires : tie.Need-quadric-at-requires
-quadric-at-requires c κs = search needs
-
-kind-at-requires : tie.Need-kind-at-requires
-kind-at-requires c κs = search needs
-
-kind-of-requires : tie.Need-kind-of-requires
-kind-of-requires c κs = search needs
-
 -- a vertex of equal parts is the same
 abbrev made : Point → Quadric → Kind → Vertex
 made a b k = record { point = a; quadric = b; kind = k }
@@ -37,4 +25,4 @@ returns c =
 pub vertex-at-spec : {M : Type 1} → statement M
 vertex-at-spec =
     tie.close
-    (tie.spec point-at-requires quadric-at-requires kind-at-requires kind-of-requires returns)
+    (tie.spec (λ c κs. search needs) (λ c κs. search needs) (λ c κs. search needs) (λ c κs. search needs) returns)

@@ -11,20 +11,8 @@ Inv-loop w₀ v f c₀ w c = Joining v f w₀ w c
 abbrev μ-loop : tie.MeasureT-loop
 μ-loop w₀ v f c₀ w c = c
 
-mul-c : tie.Need-mul-c Inv-loop μ-loop
-mul-c c = omega arith
-
 loop-holds : tie.Need-loop-holds Inv-loop μ-loop
 loop-holds c = join-start (c .before .pre .1 .1)
-
-sub-c : tie.Need-sub-c Inv-loop μ-loop
-sub-c c = omega arith
-
-corner-at-requires : tie.Need-corner-at-requires Inv-loop μ-loop
-corner-at-requires c κs = omega arith
-
-cast-x : tie.Need-cast-x Inv-loop μ-loop
-cast-x c = omega arith
 
 push-corner-requires : tie.Need-push-corner-requires Inv-loop μ-loop
 push-corner-requires c κs =
@@ -32,18 +20,15 @@ push-corner-requires c κs =
     let turn = c .before .before .before in
     omega (arith, join-point (entry .pre .0) (entry .pre .1 .0) (omega arith) (turn .before .loop .inv))
 
-loop-less : tie.Need-loop-less Inv-loop μ-loop
-loop-less c = omega arith
-
 loop-again : tie.Need-loop-again Inv-loop μ-loop
 loop-again c =
-    let entry = c .before .before .before .before .before .before .before .before .before in
-    let turn = c .before .before .before .before .before .before in
+    let after-corner-at = c .before .before .before .before in
+    let after-place = after-corner-at .before .before in
+    let after-place2 = after-place .before .before .before in
+    let entry = after-place2 in
+    let turn = after-place in
     join-turn (entry .pre .0) (entry .pre .1 .0) (omega arith) (turn .before .loop .inv)
-    (c .before .before .before .before .corner-at .ensures) (c .before .before .push-corner .ensures)
-
-same-length : tie.Need-same-length Inv-loop μ-loop
-same-length c = omega arith
+    (after-corner-at .corner-at .ensures) (c .before .before .push-corner .ensures)
 
 returns : tie.Need-returns Inv-loop μ-loop
 returns c = join-end (omega arith) (c .before .loop .inv)
@@ -54,13 +39,13 @@ join-spec =
     (tie.spec
     Inv-loop
     μ-loop
-    mul-c
+    (λ c. omega arith)
     loop-holds
-    sub-c
-    corner-at-requires
-    cast-x
+    (λ c. omega arith)
+    (λ c κs. omega arith)
+    (λ c. omega arith)
     push-corner-requires
-    loop-less
+    (λ c. omega arith)
     loop-again
-    same-length
+    (λ c. omega arith)
     returns)

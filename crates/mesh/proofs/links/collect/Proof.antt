@@ -13,20 +13,8 @@ Inv-loop w₀ v f x base n₀ link₀ w n link = Walk v f w₀ x base w n link
 abbrev μ-loop : tie.MeasureT-loop
 μ-loop w₀ v f x base n₀ link₀ w n link = steps f w₀ (3 * f) link
 
-first-at-requires : tie.Need-first-at-requires Inv-loop μ-loop
-first-at-requires c κs = omega arith
-
-cast-link : tie.Need-cast-link Inv-loop μ-loop
-cast-link c = omega arith
-
 loop-holds : tie.Need-loop-holds Inv-loop μ-loop
 loop-holds c = start _ (c .first-at .ensures) (c .before .before .before .pre .0) (c .before .before .before .pre .1 .0)
-
-sub-face : tie.Need-sub-face Inv-loop μ-loop
-sub-face c = omega arith
-
-sub-next-at : tie.Need-sub-next-at Inv-loop μ-loop
-sub-next-at c = omega arith
 
 -- the link names a corner
 corner-inside : (c : tie.In-loop Inv-loop μ-loop) → c .before .loop .link - 1 < 3 * c .before .before .before .before .before .args .f
@@ -45,9 +33,6 @@ room-left c =
 
 next-at-requires : tie.Need-next-at-requires Inv-loop μ-loop
 next-at-requires c κs = omega (arith, corner-inside (c .before))
-
-cast-link-2 : tie.Need-cast-link-2 Inv-loop μ-loop
-cast-link-2 c = omega arith
 
 live-at-requires : tie.Need-live-at-requires Inv-loop μ-loop
 live-at-requires c κs = omega (arith, corner-inside (c .before .before .before))
@@ -83,9 +68,6 @@ loop-again-2 c =
     passed (omega arith) (turn (c .before) .loop-test .taken) (turn (c .before) .before .loop .inv)
     (c .before .before .before .next-at .ensures) (c .before .live-at .ensures) (c .if1 .left)
 
-same-length : tie.Need-same-length Inv-loop μ-loop
-same-length c = search needs
-
 returns : tie.Need-returns Inv-loop μ-loop
 returns c = collected (omega arith) (c .loop-test .left) (c .before .loop .inv)
 
@@ -95,13 +77,13 @@ collect-spec =
     (tie.spec
     Inv-loop
     μ-loop
-    first-at-requires
-    cast-link
+    (λ c κs. omega arith)
+    (λ c. omega arith)
     loop-holds
-    sub-face
-    sub-next-at
+    (λ c. omega arith)
+    (λ c. omega arith)
     next-at-requires
-    cast-link-2
+    (λ c. omega arith)
     live-at-requires
     cast-w
     add-w
@@ -112,5 +94,5 @@ collect-spec =
     loop-again
     loop-less-2
     loop-again-2
-    same-length
+    (λ c. search needs)
     returns)

@@ -5,18 +5,6 @@ use Rattle.mesh.specs.Contracts.Quadrics.{withSum}
 use Rattle.mesh.proofs.quadrics.add_quadric.Statement.{statement}
 use Rattle.mesh.proofs.quadrics.add_quadric.Tie as tie
 
-quadric-at-requires : tie.Need-quadric-at-requires
-quadric-at-requires c κs = search needs
-
-sum-requires : tie.Need-sum-requires
-sum-requires c κs = search needs
-
-set-quadric-requires : tie.Need-set-quadric-requires
-set-quadric-requires c κs = search needs
-
-same-length : tie.Need-same-length
-same-length c = search needs
-
 returns : tie.Need-returns
 unfolding withSum
 returns c =
@@ -26,4 +14,4 @@ returns c =
 
 pub add-quadric-spec : {M : Type 1} → statement M
 add-quadric-spec =
-    tie.close (tie.spec quadric-at-requires sum-requires set-quadric-requires same-length returns)
+    tie.close (tie.spec (λ c κs. search needs) (λ c κs. search needs) (λ c κs. search needs) (λ c. search needs) returns)

@@ -5,9 +5,6 @@ use Rattle.mesh.proofs.QuadricLaws.{points-copied}
 use Rattle.mesh.proofs.quadrics.lay_points.Statement.{statement}
 use Rattle.mesh.proofs.quadrics.lay_points.Tie as tie
 
-copy-f32-requires : tie.Need-copy-f32-requires
-copy-f32-requires c κs = search needs
-
 returns : tie.Need-returns
 returns c =
     let copied = c .before .before in
@@ -15,4 +12,4 @@ returns c =
     copied .copy-f32 .ensures ∙ points-copied (start .args .v) (start .args .points .now) (start .args .p .now) (start .pre .0)
 
 pub lay-points-spec : {M : Type 1} → statement M
-lay-points-spec = tie.close (tie.spec copy-f32-requires (λ c. search needs) returns)
+lay-points-spec = tie.close (tie.spec (λ c κs. search needs) (λ c. search needs) returns)

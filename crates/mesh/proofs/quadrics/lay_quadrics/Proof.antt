@@ -25,27 +25,15 @@ face-corners c =
     let head = c .before .before in
     corners _ _ (rw (c .face-in .ensures) (entry (head .before) .pre .1 .0 (head .loop .k) (c .before .loop-test .taken)))
 
-start-quadrics-requires : tie.Need-start-quadrics-requires Inv-loop μ-loop
-start-quadrics-requires c κs = omega arith
-
 loop-holds : tie.Need-loop-holds Inv-loop μ-loop
 loop-holds c =
     let args = entry c .args in (omega arith, quadrics-start (args .w .now) (args .p .now) (c .before .before .start-quadrics .ensures))
-
-face-in-requires : tie.Need-face-in-requires Inv-loop μ-loop
-face-in-requires c κs = omega arith
 
 face-quadric-requires : tie.Need-face-quadric-requires Inv-loop μ-loop
 face-quadric-requires c κs = let k = face-corners (c .before) in omega arith
 
 add-face-requires : tie.Need-add-face-requires Inv-loop μ-loop
 add-face-requires c κs = let k = face-corners (c .before .before) in omega arith
-
-add-k : tie.Need-add-k Inv-loop μ-loop
-add-k c = omega arith
-
-loop-less : tie.Need-loop-less Inv-loop μ-loop
-loop-less c = omega arith
 
 loop-again : tie.Need-loop-again Inv-loop μ-loop
 loop-again c =
@@ -60,9 +48,6 @@ loop-again c =
           (omega arith) (head .loop .inv .1) (read .face-in .ensures) (valued .face-quadric .ensures) (added .add-face .ensures),
     )
 
-same-length : tie.Need-same-length Inv-loop μ-loop
-same-length c = omega arith
-
 returns : tie.Need-returns Inv-loop μ-loop
 returns c =
     let head = c .before in
@@ -75,13 +60,13 @@ lay-quadrics-spec =
     (tie.spec
     Inv-loop
     μ-loop
-    start-quadrics-requires
+    (λ c κs. omega arith)
     loop-holds
-    face-in-requires
+    (λ c κs. omega arith)
     face-quadric-requires
     add-face-requires
-    add-k
-    loop-less
+    (λ c. omega arith)
+    (λ c. omega arith)
     loop-again
-    same-length
+    (λ c. omega arith)
     returns)

@@ -21,23 +21,11 @@ loop-holds c = (omega arith, quadrics-none _ _)
 start-requires : tie.Need-start-requires Inv-loop μ-loop
 start-requires c κs = tt
 
-set-quadric-requires : tie.Need-set-quadric-requires Inv-loop μ-loop
-set-quadric-requires c κs = omega arith
-
-add-x : tie.Need-add-x Inv-loop μ-loop
-add-x c = omega arith
-
-loop-less : tie.Need-loop-less Inv-loop μ-loop
-loop-less c = omega arith
-
 loop-again : tie.Need-loop-again Inv-loop μ-loop
 loop-again c =
     let stored = c .before .before in
     let head = stored .before .before .before .before in
     (omega arith, rw (stored .set-quadric .ensures, stored .before .start .ensures) (quadrics-more (omega arith) (head .loop .inv .1)))
-
-same-length : tie.Need-same-length Inv-loop μ-loop
-same-length c = omega arith
 
 returns : tie.Need-returns Inv-loop μ-loop
 returns c =
@@ -52,9 +40,9 @@ start-quadrics-spec =
     μ-loop
     loop-holds
     start-requires
-    set-quadric-requires
-    add-x
-    loop-less
+    (λ c κs. omega arith)
+    (λ c. omega arith)
+    (λ c. omega arith)
     loop-again
-    same-length
+    (λ c. omega arith)
     returns)

@@ -20,15 +20,6 @@ room c =
     room-known (start (c .before) .args .x) (start (c .before) .pre .1 .0) (c .before .mark-at .result) (c .before .mark-at .ensures)
     (c .if1 .left) (start (c .before) .pre .1 .1 .1)
 
-mark-at-requires : tie.Need-mark-at-requires
-mark-at-requires c κs = search needs
-
-sub-t12 : tie.Need-sub-t12
-sub-t12 c = search needs
-
-same-length : tie.Need-same-length
-same-length c = search needs
-
 returns : tie.Need-returns
 returns c = numbered-old (start (c .before) .args .x) (start (c .before) .pre .1 .0) (c .before .mark-at .result) (c .before .mark-at .ensures) (c .if1 .taken)
 
@@ -41,20 +32,11 @@ add-set-mark c = omega (arith, room (c .before .before .before .before .before))
 cast-set-mark : tie.Need-cast-set-mark
 cast-set-mark c = omega (arith, room (c .before .before .before .before .before))
 
-set-mark-requires : tie.Need-set-mark-requires
-set-mark-requires c κs = search needs
-
 cast-t19 : tie.Need-cast-t19
 cast-t19 c = omega (arith, room (c .before .before .before .before .before .before .before .before))
 
 add-t18 : tie.Need-add-t18
 add-t18 c = omega (arith, room (c .before .before .before .before .before .before .before .before))
-
-same-length-2 : tie.Need-same-length-2
-same-length-2 c = search needs
-
-same-length-3 : tie.Need-same-length-3
-same-length-3 c = search needs
 
 returns-2 : tie.Need-returns-2
 returns-2 c =
@@ -68,16 +50,16 @@ pub number-of-spec : {M : Type 1} → statement M
 number-of-spec =
     tie.close
     (tie.spec
-    mark-at-requires
-    sub-t12
-    same-length
+    (λ c κs. search needs)
+    (λ c. search needs)
+    (λ c. search needs)
     returns
     put-point-requires
     add-set-mark
     cast-set-mark
-    set-mark-requires
+    (λ c κs. search needs)
     cast-t19
     add-t18
-    same-length-2
-    same-length-3
+    (λ c. search needs)
+    (λ c. search needs)
     returns-2)

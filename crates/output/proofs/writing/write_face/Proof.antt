@@ -18,16 +18,10 @@ first c = c .before .before .before .before .before .before .before .before
 abbrev second : tie.After-number-of3 → tie.After-number-of2
 second c = c .before .before .before .before .before .before .before .before
 
-cast-number-of : tie.Need-cast-number-of
-cast-number-of c = search needs
-
 number-of-requires : tie.Need-number-of-requires
 number-of-requires c κs =
     let entry = c .before .before .before .before .before .before .before in
     (entry .pre .0, (corners-low (entry .args .v) (entry .args .face) (entry .pre .1 .0) .0, (entry .pre .1 .1 .0, entry .pre .1 .1 .1 .1)))
-
-cast-number-of-2 : tie.Need-cast-number-of-2
-cast-number-of-2 c = search needs
 
 number-of-requires-2 : tie.Need-number-of-requires-2
 number-of-requires-2 c κs =
@@ -42,9 +36,6 @@ number-of-requires-2 c κs =
         ),
       ),
     )
-
-cast-number-of-3 : tie.Need-cast-number-of-3
-cast-number-of-3 c = search needs
 
 number-of-requires-3 : tie.Need-number-of-requires-3
 number-of-requires-3 c κs =
@@ -78,12 +69,6 @@ same-length c =
     ∙ second three .number-of2 .ensures .but .same-length
     ∙ first (second three) .number-of .ensures .but .same-length
 
-same-length-2 : tie.Need-same-length-2
-same-length-2 c = search needs
-
-same-length-3 : tie.Need-same-length-3
-same-length-3 c = search needs
-
 returns : tie.Need-returns
 returns c =
     let put = c .before .before .before in
@@ -94,15 +79,15 @@ pub write-face-spec : {M : Type 1} → statement M
 write-face-spec =
     tie.close
     (tie.spec
-    cast-number-of
+    (λ c. search needs)
     number-of-requires
-    cast-number-of-2
+    (λ c. search needs)
     number-of-requires-2
-    cast-number-of-3
+    (λ c. search needs)
     number-of-requires-3
     put-face-requires
     add-t14
     same-length
-    same-length-2
-    same-length-3
+    (λ c. search needs)
+    (λ c. search needs)
     returns)

@@ -1,4 +1,4 @@
--- `thinning::list_folds` meets its contract. The loop's invariant: the numbers below `i` are copied. The measure is what is left of `n`.
+-- `walking::list_folds` meets its contract. The loop's invariant: the numbers below `i` are copied. The measure is what is left of `n`.
 -- Assumes nothing.
 use Prim.Native.Nat.{ℕ, _+_, _≤_, _-_}
 use native.Mathlib.Omega.{arith}
@@ -6,9 +6,9 @@ use mathlib.Core.Path.{_≡_, refl, ap, _∙_}
 use lib.ListN.{length, getD, set, length-set}
 use borrow.Author.Needs.{needs}
 use Rattle.lists.proofs.OverlayLaws.{copied}
-use Rattle.thinning.proofs.FoldListLaws.{row, row-more, row-all}
-use Rattle.thinning.proofs.list_folds.Statement.{statement}
-use Rattle.thinning.proofs.list_folds.Tie as tie
+use Rattle.walking.proofs.FoldListLaws.{row, row-more, row-all}
+use Rattle.walking.proofs.list_folds.Statement.{statement}
+use Rattle.walking.proofs.list_folds.Tie as tie
 
 abbrev Inv-loop : tie.InvT-loop
 Inv-loop w v f made folds₀ from n i₀ folds i = (i ≤ n) × (length folds ≡ length folds₀) × (folds ≡ copied i (row v f w made folds₀) folds₀)

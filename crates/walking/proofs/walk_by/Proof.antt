@@ -1,20 +1,14 @@
--- `thinning::walk_by` meets its contract: each walk is handed what it asks, and states what is asked.
+-- `walking::walk_by` meets its contract: each walk is handed what it asks, and states what is asked.
 -- Assumes nothing.
 use borrow.Author.Needs.{needs}
-use Rattle.thinning.proofs.WalkedLaws.{plain-room}
-use Rattle.thinning.proofs.walk_by.Statement.{statement}
-use Rattle.thinning.proofs.walk_by.Tie as tie
-
-enum-told : tie.Need-enum-told
-enum-told c = search needs
+use Rattle.walking.proofs.WalkedLaws.{plain-room}
+use Rattle.walking.proofs.walk_by.Statement.{statement}
+use Rattle.walking.proofs.walk_by.Tie as tie
 
 plain-walk-requires : tie.Need-plain-walk-requires
 plain-walk-requires c κs =
     let asked = c .before .before .before .before .before .before .before .before .pre in
     (asked .tidy, (asked .all-live, plain-room asked))
-
-enum-told-2 : tie.Need-enum-told-2
-enum-told-2 c = search needs
 
 heap-walk-requires : tie.Need-heap-walk-requires
 heap-walk-requires c κs =
@@ -49,9 +43,9 @@ pub walk-by-spec : {M : Type 1} → statement M
 walk-by-spec =
     tie.close
     (tie.spec
-    enum-told
+    (λ c. search needs)
     plain-walk-requires
-    enum-told-2
+    (λ c. search needs)
     heap-walk-requires
     same-length
     same-length-2

@@ -21,7 +21,7 @@ use Rattle.mesh.specs.Contracts.Quadrics.{QuadricsAre}
 use Rattle.mesh.proofs.QuadricLaws.{points-length, points-rest}
 use Rattle.mesh.proofs.StartLaws.{bordered-laid, slots-proper, mesh-laid}
 use Rattle.lists.proofs.DropLaws.{rest-more}
-use Rattle.thinning.specs.Contracts.{Ready, LaidOut}
+use Rattle.walking.specs.Contracts.{Ready, LaidOut}
 use Rattle.memory.specs.Layout.{costsTo, placesTo}
 
 module _ {v f n : ℕ} {points : List Float} {faces : List ℕ} {preserve : Bool} {w w₁ w₂ : List ℕ} {p q : List Float} (ready : Ready v f points faces w p q)

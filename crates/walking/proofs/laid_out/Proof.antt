@@ -1,10 +1,10 @@
--- `thinning::laid_out` meets its contract: what the four steps leave is the mesh at the start.
+-- `walking::laid_out` meets its contract: what the four steps leave is the mesh at the start.
 -- Assumes nothing.
 use mathlib.Core.Path.{_∙_}
 use borrow.Author.Needs.{needs}
-use Rattle.thinning.proofs.LaidLaws.{quadrics-asked, laid-out}
-use Rattle.thinning.proofs.laid_out.Statement.{statement}
-use Rattle.thinning.proofs.laid_out.Tie as tie
+use Rattle.walking.proofs.LaidLaws.{quadrics-asked, laid-out}
+use Rattle.walking.proofs.laid_out.Statement.{statement}
+use Rattle.walking.proofs.laid_out.Tie as tie
 
 -- the place after each step, from the place after the next
 abbrev entry : tie.After-lay-faces → tie.Start
@@ -15,15 +15,6 @@ laid c = c .before .before .before .before
 
 abbrev bordered : tie.After-lay-points → tie.After-mark-borders
 bordered c = c .before .before .before .before
-
-lay-faces-requires : tie.Need-lay-faces-requires
-lay-faces-requires c κs = search needs
-
-mark-borders-requires : tie.Need-mark-borders-requires
-mark-borders-requires c κs = search needs
-
-lay-points-requires : tie.Need-lay-points-requires
-lay-points-requires c κs = search needs
 
 lay-quadrics-requires : tie.Need-lay-quadrics-requires
 lay-quadrics-requires c κs =
@@ -53,9 +44,9 @@ pub laid-out-spec : {M : Type 1} → statement M
 laid-out-spec =
     tie.close
     (tie.spec
-    lay-faces-requires
-    mark-borders-requires
-    lay-points-requires
+    (λ c κs. search needs)
+    (λ c κs. search needs)
+    (λ c κs. search needs)
     lay-quadrics-requires
     same-length
     same-length-2

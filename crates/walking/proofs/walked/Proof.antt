@@ -1,14 +1,14 @@
--- `thinning::walked` meets its contract: the mesh is laid out, walked and its folds listed, and what stands in memory then is the last mesh of the input.
+-- `walking::walked` meets its contract: the mesh is laid out, walked and its folds listed, and what stands in memory then is the last mesh of the input.
 -- Assumes nothing.
-use Rattle.thinning.proofs.SizeLaws.{few-fits}
+use Rattle.walking.proofs.FitLaws.{few-fits}
 use mathlib.Core.Path.{_≡_, _∙_}
 use borrow.Author.Needs.{needs}
 use Rattle.meaning.specs.Input.{Input}
 use Rattle.meaning.specs.Outcome.{targetOf}
-use Rattle.thinning.specs.Contracts.{inputWalked}
-use Rattle.thinning.proofs.WalkedLaws.{walk-asked, folds-few, mesh-walked}
-use Rattle.thinning.proofs.walked.Statement.{statement}
-use Rattle.thinning.proofs.walked.Tie as tie
+use Rattle.walking.specs.Contracts.{inputWalked}
+use Rattle.walking.proofs.WalkedLaws.{walk-asked, folds-few, mesh-walked}
+use Rattle.walking.proofs.walked.Statement.{statement}
+use Rattle.walking.proofs.walked.Tie as tie
 
 -- the place after each step, from the place after the next, and the input
 abbrev aimed : tie.After-laid-out → tie.After-target
@@ -30,9 +30,6 @@ aim c = aimed c .target .ensures
 
 cast-target : tie.Need-cast-target
 cast-target c = let start = c .before .before .before .before .before .before in few-fits (start .pre .working .u32s .faces-few)
-
-target-requires : tie.Need-target-requires
-target-requires c κs = search needs
 
 laid-out-requires : tie.Need-laid-out-requires
 laid-out-requires c κs = let start = c .before .before .before .before .before .before .before .before .before .before in start .pre
@@ -74,7 +71,7 @@ walked-spec =
     tie.close
     (tie.spec
     cast-target
-    target-requires
+    (λ c κs. search needs)
     laid-out-requires
     walk-by-requires
     list-folds-requires

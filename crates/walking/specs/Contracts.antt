@@ -1,0 +1,72 @@
+-- What laying a mesh out and walking it ask and leave.
+use Prim.Native.Nat.{ℕ, _*_, _≤_}
+use mathlib.Core.Path.{_≡_}
+use mathlib.Core.List.{List}
+use mathlib.Core.Bool.{Bool, true, cond}
+use lib.ListN.{length}
+use lib.Ieee.{Float}
+use Rattle.lists.specs.Lists.{every}
+use Rattle.walk.specs.Faces.{proper, facesOf, borderCount}
+use Rattle.memory.specs.Layout.{costsTo, placesTo, f32sNeeded, f64sNeeded}
+use Rattle.memory.specs.Memory.{Room, liveFaces}
+use Rattle.memory.specs.Points.{meshOf}
+use Rattle.mesh.specs.Contracts.Chains.{Tidy}
+use Rattle.plainwalk.specs.Steps.{Within}
+use Rattle.meaning.specs.declared.Options.{Options}
+use Rattle.meaning.specs.Input.{Input, pointsIn, facesIn}
+use Rattle.meaning.specs.Start.{startMesh}
+use Rattle.meaning.specs.Outcome.{targetOf, lastMesh, foldsWalked, foldsMade, bordersHeld}
+use Rattle.meaning.specs.Call.{coordinateBound, listed}
+use Rattle.walking.specs.declared.Came.{Came}
+
+-- sizes within document 01's limits, and work memory with the stated room
+pub record Working (v f : ℕ) (u : List ℕ) (p q : List Float) : Type 0 where
+  pub u32s : Room v f u
+  pub f32s : f32sNeeded v f ≤ length p
+  pub f64s : f64sNeeded v f ≤ length q
+
+-- a mesh that may be laid out: three numbers to a point and to a face, faces with three distinct points, and work memory for them
+pub record Ready (v f : ℕ) (points : List Float) (faces : List ℕ) (u : List ℕ) (p q : List Float) : Type 0 where
+  pub points-by-three : length points ≡ 3 * v
+  pub faces-by-three : length faces ≡ 3 * f
+  pub faces-proper : every (proper v) (facesOf f faces) ≡ true
+  pub working : Working v f u p q
+
+-- a mesh in memory that may be walked
+pub record Walkable (v f : ℕ) (u : List ℕ) (p q : List Float) : Type 0 where
+  pub tidy : Tidy v f u
+  pub all-live : length (liveFaces f u) ≡ f
+  pub places-fit : placesTo v f ≤ length p
+  pub costs-fit : costsTo v f ≤ length q
+
+-- the mesh at the start in the work memory, and the number of border points that are held
+pub record LaidOut (v f : ℕ) (points : List Float) (faces : List ℕ) (preserve : Bool)
+    (u : List ℕ) (p q : List Float) (u' : List ℕ) (p' q' : List Float) (borders : ℕ) : Type 0 where
+  pub tidy : Tidy v f u'
+  pub within : Within v f u p q u' p' q'
+  pub same-mesh : meshOf v f u' p' q' ≡ startMesh v f points faces preserve
+  pub all-live : length (liveFaces f u') ≡ f
+  pub counted : borders ≡ cond preserve (borderCount v (facesOf f faces)) 0
+
+-- an input as the walk sees it: it looks at no lent buffer, so the room in them is left out
+abbrev pub inputWalked : List Float → List ℕ → Options → Input
+inputWalked points faces options =
+    record {
+      points = points;
+      faces = faces;
+      rooms = record { points = 0; faces = 0; u32s = 0; f32s = 0; f64s = 0 };
+      options = options;
+      bound = coordinateBound;
+    }
+
+-- an input's last mesh in the work memory, what its walk came to, and its folds listed
+pub record MeshWalked (i : Input) (u : List ℕ) (p q : List Float) (u' : List ℕ) (p' q' : List Float) (folds folds' : List ℕ) (came : Came) : Type 0 where
+  pub tidy : Tidy (pointsIn i) (facesIn i) u'
+  pub within : Within (pointsIn i) (facesIn i) u p q u' p' q'
+  pub last-mesh : meshOf (pointsIn i) (facesIn i) u' p' q' ≡ lastMesh i
+  pub aim : came .target ≡ targetOf i
+  pub borders-held : came .borders ≡ bordersHeld i
+  pub borders-few : came .borders ≤ pointsIn i
+  pub folds-made : came .folds ≡ foldsMade i
+  pub folds-few : came .folds ≤ facesIn i
+  pub folds-listed : folds' ≡ listed (foldsWalked i) folds
