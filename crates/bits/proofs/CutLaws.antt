@@ -14,11 +14,7 @@ use lib.Ieee.Order.{le-of-values, round-mono}
 use lib.Ieee.Scale.{finite}
 use lib.Ieee.Back.{round-whole}
 use borrow.Author.Tests.{ltb-true, eqb-true, le-ltb}
-use Rattle.bits.specs.Cut.{one, cut, target}
-
--- 0.0
-abbrev pub zero : Float
-zero = fin false 0 (pos 0)
+use Rattle.bits.specs.Cut.{zeroFloat, oneFloat, cut, target}
 
 -- ---- finite, not negative, and at most n
 
@@ -90,7 +86,7 @@ round-most f a b n B N h =
 -- ---- the steps of the target
 
 -- 1.0 - ratio is at most 1. A ratio of -0.0 passes the tests, and gives 1.0
-sub-most : (ratio : Float) → T (le zero ratio) → T (le ratio one) → AtMost 1 (sub binary32 one ratio)
+sub-most : (ratio : Float) → T (le zeroFloat ratio) → T (le ratio oneFloat) → AtMost 1 (sub binary32 oneFloat ratio)
 unfolding le sub sum
 sub-most nan l h = absurd l
 sub-most (inf true) l h = absurd l
@@ -124,24 +120,24 @@ cut-most (fin true m e) n p = absurd p
 cut-most (fin false m e) n p = le-trans (min-le-left _ _) (div-le-of-le-mul (down e) p)
 
 -- what is at most n is a number, and not below zero
-proper : (n : ℕ) (x : Float) → AtMost n x → T (finite x) × T (le zero x)
+proper : (n : ℕ) (x : Float) → AtMost n x → T (finite x) × T (le zeroFloat x)
 unfolding le
 proper n nan p = absurd p
 proper n (inf s) p = absurd p
 proper n (fin true m e) p = absurd p
-proper n (fin false m e) p = (tt, le-of-values zero (fin false m e) 0 1 (m * up e) (down e) (omega arith) (down-pos e) (refl, refl) (refl, refl) (omega arith))
+proper n (fin false m e) p = (tt, le-of-values zeroFloat (fin false m e) 0 1 (m * up e) (down e) (omega arith) (down-pos e) (refl, refl) (refl, refl) (omega arith))
 
 -- what is cut: the product in f32
 abbrev pub product : Float → ℕ → Float
-product ratio faces = mul binary32 (sub binary32 one ratio) (ofInt binary32 (pos faces))
+product ratio faces = mul binary32 (sub binary32 oneFloat ratio) (ofInt binary32 (pos faces))
 
 -- a ratio from 0 to 1, and a number of faces within the limit
-module _ (ratio : Float) (faces : ℕ) (from-zero : T (le zero ratio)) (to-one : T (le ratio one)) (limit : faces ≤ 131072) where
+module _ (ratio : Float) (faces : ℕ) (from-zero : T (le zeroFloat ratio)) (to-one : T (le ratio oneFloat)) (limit : faces ≤ 131072) where
   -- the product is at most the number of faces
   product-most : AtMost faces (product ratio faces)
   unfolding ofInt
   product-most =
-      mul-most binary32 (sub binary32 one ratio) (round binary32 false faces 1) faces (omega arith)
+      mul-most binary32 (sub binary32 oneFloat ratio) (round binary32 false faces 1) faces (omega arith)
       (sub-most ratio from-zero to-one)
       (round-most binary32 faces 1 faces (omega arith) (omega arith) (omega arith))
 
@@ -151,5 +147,5 @@ module _ (ratio : Float) (faces : ℕ) (from-zero : T (le zero ratio)) (to-one :
   target-most = cut-most (product ratio faces) faces product-most
 
   -- nothing overflowed on the way, and nothing came out below zero
-  pub product-proper : T (finite (product ratio faces)) × T (le zero (product ratio faces))
+  pub product-proper : T (finite (product ratio faces)) × T (le zeroFloat (product ratio faces))
   product-proper = proper faces (product ratio faces) product-most

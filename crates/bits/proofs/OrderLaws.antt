@@ -4,7 +4,7 @@ use mathlib.Core.Path.{_≡_, refl, sym, ap, _∙_}
 use Prim.Native.Nat.{ℕ, _+_, _-_, _%_, _^_, _≤_, _<_}
 use native.Mathlib.Nat.{lt-of-le-of-lt}
 use native.Mathlib.Omega.{arith}
-use mathlib.Core.Bool.{Bool, true, false, not, _&&_, _||_, cond}
+use mathlib.Core.Bool.{Bool, true, false, not, _&&_, _||_, cond, or-true, and-false}
 use lib.Dec.{T, leb, ltb}
 use lib.IntN.{ℤ, pos, negsuc, pos-ne-negsuc}
 use lib.Signed.{leZ, ltZ}
@@ -51,15 +51,6 @@ nan-order x y false true p q d e = rw (d, e) (sym (le-leb (size x) (size y) (ome
 nan-order x y false false p q d e = rw (d, e) (leb-as (size x) (size y) (payload x) (payload y) (λ h. omega (arith, leb-false)) (λ h. omega (arith, leb-false)))
 
 -- ---- the order of keys, in the words of each case of totalOrder
-
--- two laws of truth values that do not compute
-or-true : (a : Bool) → (a || true) ≡ true
-or-true true = refl
-or-true false = refl
-
-and-false : (a : Bool) → (a && false) ≡ false
-and-false true = refl
-and-false false = refl
 
 -- at most: less, or not greater
 leb-tests : (a b : ℕ) → leb a b ≡ (ltb a b || (not (ltb b a) && true))

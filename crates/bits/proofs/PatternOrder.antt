@@ -61,7 +61,7 @@ leb-as a b c d p q = go (leb a b) refl
     go true e = le-leb c d (p (leb-true a b e))
     go false e = lt-leb c d (q (leb-false a b e))
 
-ltb-as : (a b c d : ℕ) → (a < b → c < d) → (b ≤ a → d ≤ c) → ltb c d ≡ ltb a b
+pub ltb-as : (a b c d : ℕ) → (a < b → c < d) → (b ≤ a → d ≤ c) → ltb c d ≡ ltb a b
 ltb-as a b c d p q = leb-as (suc a) b (suc c) d p (λ h. suc-le-suc (q (le-of-suc-le-suc h)))
 
 -- a function that rises, and is 0 at 0, keeps `below`, the order of numbers with signs

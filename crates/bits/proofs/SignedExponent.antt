@@ -13,6 +13,7 @@ use mir.Syntax.{w64}
 use mir.Val.{SFits, toZ, ofZ}
 use mir.ValLaws.{toZ-pos, toZ-ofZ}
 use Rattle.bits.specs.Contracts.{field, exponentFor}
+use Rattle.bits.proofs.PatternOrder.{ltb-as}
 
 -- the exponent for a field x, by whether x is below 1023
 abbrev by : Bool → ℕ → ℤ
@@ -29,20 +30,12 @@ exponent-fits b = fits-by (ltb (field b) 1023) (field b) (omega arith)
 
 -- ---- it compares as the field does
 
--- two tests with the same answer
-same-order : (a b c d : ℕ) → (a < b → c < d) → (b ≤ a → d ≤ c) → ltb c d ≡ ltb a b
-same-order a b c d below above = go (ltb a b) refl
-  where
-    go : (t : Bool) → ltb a b ≡ t → ltb c d ≡ t
-    go true e = lt-ltb c d (below (ltb-true a b e))
-    go false e = le-ltb c d (above (ltb-false a b e))
-
 -- of two negative exponents, a negative one and another, and two others
 less-by : (s t : Bool) (a b : ℕ) → ltb a 1023 ≡ s → ltb b 1023 ≡ t → ltZ (by s a) (by t b) ≡ ltb a b
-less-by true true a b p q = same-order a b (1023 - suc b) (1023 - suc a) (λ l. omega (arith, ltb-true, l)) (λ l. omega (arith, ltb-true, l))
+less-by true true a b p q = ltb-as a b (1023 - suc b) (1023 - suc a) (λ l. omega (arith, ltb-true, l)) (λ l. omega (arith, ltb-true, l))
 less-by true false a b p q = sym (lt-ltb a b (omega (arith, ltb-true, ltb-false)))
 less-by false true a b p q = sym (le-ltb a b (omega (arith, ltb-true, ltb-false)))
-less-by false false a b p q = same-order a b (a - 1023) (b - 1023) (λ l. omega (arith, ltb-false, l)) (λ l. omega (arith, ltb-false, l))
+less-by false false a b p q = ltb-as a b (a - 1023) (b - 1023) (λ l. omega (arith, ltb-false, l)) (λ l. omega (arith, ltb-false, l))
 
 less : (a b : ℕ) → ltZ (exponentFor a) (exponentFor b) ≡ ltb a b
 less a b = less-by (ltb a 1023) (ltb b 1023) a b refl refl

@@ -10,7 +10,8 @@ use Rattle.lists.specs.Lists.{some, firstOf}
 use Rattle.walk.specs.Faces.{facesOf}
 use Rattle.meaning.specs.declared.Verdict.{Verdict}
 use Rattle.meaning.specs.declared.Verdict.the-variants.{Refused, Copied}
-use Rattle.meaning.specs.Answers.{zeroFloat, badCoordinate, faceVerdict, contentsVerdict}
+use Rattle.bits.specs.Cut.{zeroFloat}
+use Rattle.meaning.specs.Answers.{badCoordinate, faceVerdict, contentsVerdict}
 use Rattle.checks.proofs.SearchLaws.{some-is-before-the-end}
 use Rattle.checks.proofs.OrderLaws.{decides, goes-on}
 

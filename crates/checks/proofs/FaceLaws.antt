@@ -5,11 +5,11 @@ use native.Mathlib.Numerals.{add-one}
 use native.Mathlib.Omega.{arith}
 use mathlib.Core.Path.{_≡_, refl, sym, ap, _∙_}
 use mathlib.Core.List.{List}
-use mathlib.Core.Bool.{Bool, true, false}
+use mathlib.Core.Bool.{Bool, true, false, cond}
 use lib.ListN.{drop, drop-of-length-le}
 use Rattle.walk.specs.Faces.{facesOf, faceAt}
 use Rattle.meaning.specs.declared.Verdict.the-variants.{Refused, Admitted}
-use Rattle.meaning.specs.Answers.{outside, doubled, pick, faceVerdict}
+use Rattle.meaning.specs.Answers.{outside, doubled, faceVerdict}
 use Rattle.checks.proofs.SearchLaws.{length-faces, faces-from}
 use Rattle.checks.proofs.OrderLaws.{decides, goes-on}
 
@@ -25,7 +25,7 @@ module _ (v f : ℕ) (numbers : List ℕ) where
 
   -- face k decides by itself, or the faces after it do
   by-face : {k : ℕ} → Passed k → k < f →
-      pick (outside v (faceAt numbers k)) (Refused 8 k) (pick (doubled (faceAt numbers k)) (Refused 9 k) (faceVerdict v (suc k) (drop (suc k) (facesOf f numbers))))
+      cond (outside v (faceAt numbers k)) (Refused 8 k) (cond (doubled (faceAt numbers k)) (Refused 9 k) (faceVerdict v (suc k) (drop (suc k) (facesOf f numbers))))
       ≡ faceVerdict v 0 (facesOf f numbers)
   unfolding faceVerdict
   by-face {k} s h = sym (ap (faceVerdict v k) (faces-from f numbers k h)) ∙ s .decided

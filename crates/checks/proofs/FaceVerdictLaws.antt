@@ -4,17 +4,18 @@ use native.Mathlib.Omega.{arith}
 use mathlib.Core.Path.{_≡_, refl, sym, _∙_}
 use mathlib.Core.Logic.{⊎-elim}
 use mathlib.Core.List.{List, [], _∷_}
-use mathlib.Core.Bool.{Bool, true, false, not, _&&_, _||_}
+use mathlib.Core.Bool.{Bool, true, false, not, _&&_, _||_, cond}
+use mathlib.Mathlib.Data.Bool.Basic.{and-intro}
 use borrow.Author.Tests.{not-true}
 use lib.Dec.{ltb, eqb}
 use Rattle.walk.specs.declared.Face.{Face}
 use Rattle.lists.specs.Lists.{every}
+use Rattle.lists.proofs.TestLaws.{both-true}
 use Rattle.walk.specs.Faces.{proper}
 use Rattle.meaning.specs.declared.Verdict.{Verdict}
 use Rattle.meaning.specs.declared.Verdict.the-variants.{Refused, Copied, Admitted}
-use Rattle.meaning.specs.Answers.{outside, doubled, pick, faceVerdict}
+use Rattle.meaning.specs.Answers.{outside, doubled, faceVerdict}
 use Rattle.checks.specs.Facts.{LowestBad}
-use Rattle.checks.proofs.TestLaws.{and-true, both}
 use Rattle.checks.proofs.SearchLaws.{first-here, first-there}
 use Rattle.checks.proofs.OrderLaws.{goes-on, past, decided}
 
@@ -45,15 +46,15 @@ faces-proper-of v k [] e = refl
 faces-proper-of v k (f ∷ fs) e =
     let o = past admits (outside v f) (Refused 8 k) _ refl refl e in
     let d = past admits (doubled f) (Refused 9 k) _ refl refl (o .1) in
-    both (proper-of v f (o .0) (d .0)) (faces-proper-of v (suc k) fs (d .1))
+    and-intro (proper-of v f (o .0) (d .0)) (faces-proper-of v (suc k) fs (d .1))
 
 -- and back
 pub faces-admitted : (v k : ℕ) (fs : List Face) → every (proper v) fs ≡ true → faceVerdict v k fs ≡ Admitted
 unfolding faceVerdict every
 faces-admitted v k [] e = refl
 faces-admitted v k (f ∷ fs) e =
-    let each = and-true (proper v f) _ e in
-    let parts = and-true (not (outside v f)) (not (doubled f)) (sym (proper-is v f) ∙ each .0) in
+    let each = both-true (proper v f) _ e in
+    let parts = both-true (not (outside v f)) (not (doubled f)) (sym (proper-is v f) ∙ each .0) in
     sym
     (goes-on (outside v f) _ (Refused 8 k) _ _ refl (not-true _ (parts .0))
     (goes-on (doubled f) _ (Refused 9 k) _ _ refl (not-true _ (parts .1)) (sym (faces-admitted v (suc k) fs (each .1)))))
@@ -88,7 +89,7 @@ lowest-of v k (f ∷ fs) {n} {p} e =
     (λ (o : (outside v f ≡ true) × (Refused 8 k ≡ Refused n p)).
     let q : k ≡ p = cc in
     (0, (omega arith, record { lowest = first-here _ _ f fs (rw (proper-is, o .0)); number = rw (o .0) (cc) })))
-    (λ (o : (outside v f ≡ false) × (pick (doubled f) (Refused 9 k) (faceVerdict v (suc k) fs) ≡ Refused n p)).
+    (λ (o : (outside v f ≡ false) × (cond (doubled f) (Refused 9 k) (faceVerdict v (suc k) fs) ≡ Refused n p)).
     ⊎-elim
     (λ (d : (doubled f ≡ true) × (Refused 9 k ≡ Refused n p)).
     let q : k ≡ p = cc in

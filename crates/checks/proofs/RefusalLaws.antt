@@ -14,7 +14,8 @@ use Rattle.walk.specs.Faces.{facesOf}
 use Rattle.meaning.specs.declared.Verdict.{Verdict}
 use Rattle.meaning.specs.declared.Verdict.the-variants.{Refused, Copied}
 use Rattle.meaning.specs.Input.{Input, pointsIn, facesIn}
-use Rattle.meaning.specs.Answers.{zeroFloat, uneven, large, short, empty, badRatio, badLimit, badCoordinate, outside, pick, faceVerdict, contentsVerdict, verdictOf}
+use Rattle.bits.specs.Cut.{zeroFloat}
+use Rattle.meaning.specs.Answers.{uneven, large, short, empty, badRatio, badLimit, badCoordinate, outside, faceVerdict, contentsVerdict, verdictOf}
 use Rattle.checks.specs.Facts.{noFace, FirstAt, LowestBad, InTable}
 use Rattle.checks.proofs.SearchLaws.{first-of, length-faces}
 use Rattle.checks.proofs.OrderLaws.{past, decided, not-large}
@@ -32,7 +33,7 @@ module _ (points : List Float) (faces : List ℕ) (ratio bound : Float) {n p : �
       (λ (s : (some (badCoordinate bound) points ≡ true) × (Refused 7 (firstOf (badCoordinate bound) points) ≡ Refused n p)).
       let q : firstOf (badCoordinate bound) points ≡ p = cc in
       inl (cc, rw q at (first-of (badCoordinate bound) nan points (s .0))))
-      (λ (s : (some (badCoordinate bound) points ≡ false) × (pick (eq ratio zeroFloat) Copied (faceVerdict (length points / 3) 0 (facesOf (length faces / 3) faces)) ≡ Refused n p)).
+      (λ (s : (some (badCoordinate bound) points ≡ false) × (cond (eq ratio zeroFloat) Copied (faceVerdict (length points / 3) 0 (facesOf (length faces / 3) faces)) ≡ Refused n p)).
       let above = past refuses (eq ratio zeroFloat) Copied _ refl refl (s .1) in
       let l = lowest-of (length points / 3) 0 (facesOf (length faces / 3) faces) (above .1) in
       let q : p ≡ l .0 = omega arith in
@@ -63,7 +64,7 @@ lowest-bad-face i {n} e h =
 
 -- a number whose place is 0, or a later one
 from-zero : (test : Bool) (m : ℕ) (later : Verdict) {n p : ℕ} → 1 ≤ m → m ≤ 9
-    → (test ≡ false → later ≡ Refused n p → InTable n p) → pick test (Refused m 0) later ≡ Refused n p → InTable n p
+    → (test ≡ false → later ≡ Refused n p → InTable n p) → cond test (Refused m 0) later ≡ Refused n p → InTable n p
 from-zero false m later a b after e = after refl e
 from-zero true m later {n} {p} a b after e =
     let number : m ≡ n = cc in

@@ -1,20 +1,19 @@
 -- The first of a list that passes a test, whether there is one, and the faces of a list of point numbers, by their place.
 use Prim.Native.Nat.{ℕ, zero, suc, _+_, _≤_, _<_, zero-le, suc-le-suc}
-use native.Mathlib.Nat.{le-of-suc-le-suc, eq-or-lt-of-le}
+use native.Mathlib.Nat.{le-of-suc-le-suc}
 use native.Mathlib.Numerals.{add-one}
 use native.Mathlib.Omega.{arith}
 use mathlib.Core.Path.{_≡_, refl, sym, ap, _∙_}
-use mathlib.Core.Logic.{⊎-elim}
 use mathlib.Core.List.{List, [], _∷_}
 use mathlib.Core.Bool.{Bool, true, false, _||_, cond}
 use lib.Dec.{ltb, leb·zero, leb·suc-suc}
-use lib.ListN.{length, getD, drop, length-map, drop-of-length-le, List·getD-append, List·getD-map}
-use lib.Seq.{drop-cons, getD-at}
+use lib.ListN.{length, getD, drop, drop-of-length-le}
+use lib.Seq.{drop-cons}
 use Rattle.walk.specs.declared.Face.{Face}
-use Rattle.lists.specs.Lists.{some, below, firstOf}
+use Rattle.lists.specs.Lists.{some, firstOf}
 use Rattle.walk.specs.Faces.{facesOf, faceAt}
 use Rattle.checks.specs.Facts.{FirstAt}
-use Rattle.lists.proofs.BelowLaws.{length-below}
+use Rattle.lists.proofs.BelowLaws.{length-each, getD-each}
 
 -- ---- the first that passes
 
@@ -81,22 +80,14 @@ first-of test d (x ∷ xs) e = first-by test d x xs (test x) refl (λ (b : test 
 
 -- ---- faces by their place
 
-pub getD-below : (n k d : ℕ) → k < n → getD (below n) k d ≡ k
-unfolding below
-getD-below (suc n) k d h =
-    ⊎-elim
-    (λ (e : k ≡ n). getD-at (below n) n [] d k (length-below n ∙ sym e) ∙ sym e)
-    (λ (l : k < n). List·getD-append (below n) (n ∷ []) d k (rw length-below l) ∙ getD-below n k d l)
-    (eq-or-lt-of-le (le-of-suc-le-suc h))
-
 module _ (f : ℕ) (numbers : List ℕ) where
   -- how many faces
   pub length-faces : length (facesOf f numbers) ≡ f
-  length-faces = length-map (below f) (faceAt numbers) ∙ length-below f
+  length-faces = length-each (faceAt numbers) f
 
   -- face number k
   pub face-in : (k : ℕ) → k < f → getD (facesOf f numbers) k (faceAt numbers 0) ≡ faceAt numbers k
-  face-in k h = List·getD-map (faceAt numbers) (below f) k 0 ∙ ap (faceAt numbers) (getD-below f k 0 h)
+  face-in k h = getD-each (faceAt numbers) f k (faceAt numbers 0) h
 
   -- the faces from number k on
   pub faces-from : (k : ℕ) → k < f → drop k (facesOf f numbers) ≡ faceAt numbers k ∷ drop (suc k) (facesOf f numbers)

@@ -2,27 +2,18 @@
 use Prim.Native.Nat.{ℕ, zero, suc, _*_, _/_, _%_, _<_, zero-le, suc-le-suc}
 use native.Mathlib.Nat.{le-of-suc-le-suc}
 use native.Mathlib.Omega.{arith}
-use mathlib.Core.Path.{_≡_, refl, sym, subst}
+use mathlib.Core.Path.{_≡_, refl}
 use mathlib.Core.List.{List, [], _∷_}
-use mathlib.Core.Bool.{Bool, true, false, not, _&&_, _||_}
+use mathlib.Core.Bool.{Bool, false, not, _||_}
 use borrow.Author.Tests.{eqb-true, eqb-false, eq-eqb, ne-eqb, not-false}
-use lib.Dec.{T, eqb}
+use lib.Dec.{eqb}
 use lib.ListN.{length, getD}
 use Rattle.lists.specs.Lists.{some}
 use Rattle.lists.proofs.TestLaws.{neither-of}
 
--- ---- two tests joined by "or" or by "and"
-
+-- two tests joined by "or", of which neither passes
 pub neither : {a b : Bool} → a ≡ false → b ≡ false → (a || b) ≡ false
 neither e g = rw (e, g)
-
--- both hold
-pub and-true : (a b : Bool) → (a && b) ≡ true → (a ≡ true) × (b ≡ true)
-and-true true b e = (refl, e)
-and-true false b e = (e, cc)
-
-pub both : {a b : Bool} → a ≡ true → b ≡ true → (a && b) ≡ true
-both e g = rw (e, g)
 
 -- ---- a number
 
@@ -39,14 +30,6 @@ above-zero n e = let z : n ≡ 0 → ⊥ = eqb-false n 0 e in omega arith
 
 pub not-zero : (n : ℕ) → 0 < n → eqb n 0 ≡ false
 not-zero n h = ne-eqb n 0 (λ (z : n ≡ 0). omega arith)
-
--- a test that holds, as an equation and as a fact
-pub holds : {b : Bool} → b ≡ true → T b
-holds e = subst T (sym e) tt
-
-pub is-true : (b : Bool) → T b → b ≡ true
-is-true true t = refl
-is-true false t = absurd t
 
 -- ---- a list
 

@@ -1,19 +1,23 @@
 -- What a verdict says of its input. An input is admitted exactly when it is admissible, and copied exactly when it is copiable.
 use mathlib.Core.Path.{_≡_, refl, sym}
-use mathlib.Core.Bool.{Bool, true, false}
+use mathlib.Core.Bool.{Bool, true, false, cond}
+use mathlib.Mathlib.Data.Bool.Basic.{and-intro}
 use borrow.Author.Tests.{ltb-false, le-ltb, not-false}
 use lib.Dec.{leb}
 use lib.ListN.{length}
 use lib.Ieee.{nan, le, eq}
+use lib.Ieee.Bits.{is-true}
+use denote.Floats.{passes}
 use Rattle.lists.specs.Lists.{some}
 use Rattle.walk.specs.Faces.{facesOf}
 use Rattle.meaning.specs.declared.Verdict.{Verdict}
 use Rattle.meaning.specs.declared.Verdict.the-variants.{Refused, Copied, Admitted}
 use Rattle.meaning.specs.Input.{Input, pointsIn, facesIn}
-use Rattle.meaning.specs.Answers.{zeroFloat, oneFloat, uneven, large, short, empty, badRatio, badLimit, badCoordinate, pick, contentsVerdict, verdictOf}
+use Rattle.bits.specs.Cut.{zeroFloat, oneFloat}
+use Rattle.meaning.specs.Answers.{uneven, large, short, empty, badRatio, badLimit, badCoordinate, contentsVerdict, verdictOf}
 use Rattle.checks.specs.Facts.{Sized, Copiable, Admissible}
-use Rattle.lists.proofs.TestLaws.{neither-of}
-use Rattle.checks.proofs.TestLaws.{neither, and-true, both, by-three, even-threes, above-zero, not-zero, holds, is-true, each-fails, none-passes}
+use Rattle.lists.proofs.TestLaws.{both-true, neither-of}
+use Rattle.checks.proofs.TestLaws.{neither, by-three, even-threes, above-zero, not-zero, each-fails, none-passes}
 use Rattle.checks.proofs.OrderLaws.{decides, goes-on, past}
 use Rattle.checks.proofs.FaceVerdictLaws.{admits, copies, faces-proper-of, faces-admitted, faces-not-copied}
 
@@ -67,7 +71,7 @@ sized-of i p seven =
     let u32s = neither-of _ _ (f32s .0) in
     let outputs = neither-of _ _ (u32s .0) in
     let counts = neither-of _ _ (p .four) in
-    let ratio = and-true (le zeroFloat (i .options .ratio)) (le (i .options .ratio) oneFloat) (not-false _ (p .five)) in
+    let ratio = both-true (le zeroFloat (i .options .ratio)) (le (i .options .ratio) oneFloat) (not-false _ (p .five)) in
     record {
       points-by-three = by-three _ (lengths .0);
       faces-by-three = by-three _ (lengths .1);
@@ -80,8 +84,8 @@ sized-of i p seven =
       room-f64s = ltb-false _ _ (f64s .1);
       points-some = above-zero _ (counts .0);
       faces-some = above-zero _ (counts .1);
-      ratio-least = holds (ratio .0);
-      ratio-most = holds (ratio .1);
+      ratio-least = passes _ (ratio .0);
+      ratio-most = passes _ (ratio .1);
       limit-good = p .six;
       coordinates-good = each-fails (badCoordinate (i .bound)) nan (i .points) seven;
     }
@@ -101,7 +105,7 @@ passed-of i s e =
           (le-ltb _ _ (s .room-f32s)))
           (le-ltb _ _ (s .room-f64s));
       four = neither (not-zero _ (s .points-some)) (not-zero _ (s .faces-some));
-      five = rw (both (is-true (le zeroFloat (i .options .ratio)) (s .ratio-least)) (is-true (le (i .options .ratio) oneFloat) (s .ratio-most)));
+      five = rw (and-intro (is-true (le zeroFloat (i .options .ratio)) (s .ratio-least)) (is-true (le (i .options .ratio) oneFloat) (s .ratio-most)));
       six = s .limit-good;
       rest = e;
     }
@@ -132,7 +136,7 @@ is-admitted i a =
     (goes-on _ _ _ _ _ refl (a .ratio-above) (sym (faces-admitted (pointsIn i) 0 (facesOf (facesIn i) (i .faces)) (a .faces-proper)))))))
 
 -- copied, or by faces that never say so
-zero-of : (test : Bool) (faces : Verdict) → (faces ≡ Copied → ⊥) → pick test Copied faces ≡ Copied → test ≡ true
+zero-of : (test : Bool) (faces : Verdict) → (faces ≡ Copied → ⊥) → cond test Copied faces ≡ Copied → test ≡ true
 zero-of true faces never e = refl
 zero-of false faces never e = absurd (never e)
 

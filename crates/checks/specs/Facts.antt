@@ -10,7 +10,8 @@ use Rattle.walk.specs.declared.Face.{Face}
 use Rattle.lists.specs.Lists.{every}
 use Rattle.walk.specs.Faces.{proper, facesOf}
 use Rattle.meaning.specs.Input.{Input, pointsIn, facesIn}
-use Rattle.meaning.specs.Answers.{zeroFloat, oneFloat, badLimit, badCoordinate, outside}
+use Rattle.bits.specs.Cut.{zeroFloat, oneFloat}
+use Rattle.meaning.specs.Answers.{badLimit, badCoordinate, outside}
 
 -- none of 1 to 7 holds
 pub record Sized (i : Input) : Type 0 where

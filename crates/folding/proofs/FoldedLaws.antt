@@ -6,6 +6,7 @@ use mathlib.Core.Path.{_≡_, refl, sym, ap, ap₂, _∙_}
 use mathlib.Core.Logic.{_≢_, inl}
 use mathlib.Core.List.{List, [], _∷_, map}
 use mathlib.Core.Bool.{Bool, true, false, not, _&&_, _||_, cond, and-false}
+use mathlib.Mathlib.Data.Bool.Basic.{and-elim-left, and-elim-right}
 use lib.Dec.{ltb, eqb}
 use lib.ListN.{length, set}
 use borrow.Author.Tests.{eqb-true, ne-eqb, lt-ltb, ltb-true, le-ltb}
@@ -13,9 +14,9 @@ use Rattle.walk.specs.declared.Face.{Face}
 use Rattle.lists.specs.Lists.{count, those, every, some, below, stretch}
 use Rattle.walk.specs.Faces.{holds, both, renamed, renamedFace, proper, faceAt}
 use Rattle.walk.specs.Fold.{foldedFaces}
-use Rattle.lists.proofs.TestLaws.{by-test, left-of, right-of, flag-le}
-use Rattle.lists.proofs.EveryLaws.{every-head, every-tail, every-from, every-implies, some-count}
-use Rattle.lists.proofs.BelowLaws.{length-below, getD-below, sum-pick, sum-same-below as sum-same-below}
+use Rattle.lists.proofs.TestLaws.{by-test, flag-le}
+use Rattle.lists.proofs.EveryLaws.{every-head, every-tail, every-implies, some-count}
+use Rattle.lists.proofs.BelowLaws.{all-below, sum-pick, sum-same-below}
 use Rattle.lists.proofs.SumLaws.{sum-same}
 use Rattle.walk.proofs.FaceLaws.{renamed-proper}
 use Rattle.memory.specs.Memory.{corner, first, lives, liveFaces, Room, liveAt}
@@ -41,7 +42,7 @@ module _ {v f : ℕ} {w : List ℕ} {x base n : ℕ} (g : Gathered v f w x base 
   -- its slots are slots
   pub gathered-inside : every (λ k. ltb k f) (stretch w base n) ≡ true
   gathered-inside =
-      every-implies (λ k. ltb k f && liveAt f w x k) (λ k. ltb k f) (λ k h. left-of (ltb k f) (liveAt f w x k) h) (stretch w base n) (g .slots-live)
+      every-implies (λ k. ltb k f && liveAt f w x k) (λ k. ltb k f) (λ k h. and-elim-left (ltb k f) (liveAt f w x k) h) (stretch w base n) (g .slots-live)
 
   -- a slot is in it once, if it is one and its face is live and holds the point
   times : (k : ℕ) → count (λ j. eqb j k) (stretch w base n) ≡ cond (ltb k f) (cond (liveAt f w x k) 1 0) 0
@@ -80,12 +81,6 @@ kept-changed test change alive alive' good face face' tests faces (k ∷ ks) all
     rw (lives-on, a, t) (ap₂ _∷_ (faces k here lives-on) rest))
     (λ t. rw (tests k here, a, t) rest))
     (λ a. rw (tests k here, a) rest)
-
--- each number below n is below n
-below-inside : (n : ℕ) → every (λ k. ltb k n) (below n) ≡ true
-below-inside n =
-    every-from (λ k. ltb k n) 0 (below n)
-    (λ i l. let m : i < n = rw length-below at l in rw (getD-below n i m) (lt-ltb i n m))
 
 -- ---- the faces that hold both are killed, and the chains of both points dropped
 
@@ -177,7 +172,7 @@ stays false x y = refl
 
 module _ {v f : ℕ} {w : List ℕ} {keep remove : ℕ} {w₃ : List ℕ} (t : Tidy v f w) (keep-v : keep < v) (d : Dropped v f w keep remove (t .listed) w₃) where
   lived-then : (k : ℕ) → k < f → lives f w₃ k ≡ true → lives f w k ≡ true
-  lived-then k l e = left-of (lives f w k) (not (both keep remove (faceAt w k))) (sym (d .lives-on k l) ∙ e)
+  lived-then k l e = and-elim-left (lives f w k) (not (both keep remove (faceAt w k))) (sym (d .lives-on k l) ∙ e)
 
   pub near-again : {near n : ℕ} {w₄ : List ℕ} → Gathered v f w keep near n → kindsFrom v f ≤ near →
       w₄ ≡ inTurn (relisted f keep keep) (stretch w₃ near n) w₃ →
@@ -226,7 +221,7 @@ module _ {v f : ℕ} {w : List ℕ} {keep remove : ℕ} {w₃ w₄ w₅ : List �
   left k l = still k l ∙ d .lives-on k l
 
   lived : (k : ℕ) → k < f → lives f w₅ k ≡ true → lives f w k ≡ true
-  lived k l e = left-of (lives f w k) (not (both keep remove (faceAt w k))) (sym (left k l) ∙ e)
+  lived k l e = and-elim-left (lives f w k) (not (both keep remove (faceAt w k))) (sym (left k l) ∙ e)
 
   -- and their points
   renamed-corner : (c : ℕ) → c < 3 * f → lives f w₅ (c / 3) ≡ true → corner w₅ c ≡ renamed keep remove (corner w c)
@@ -256,12 +251,12 @@ module _ {v f : ℕ} {w : List ℕ} {keep remove : ℕ} {w₃ w₄ w₅ : List �
       far .chains
       (λ c. ((t .listed c && not (eqb (corner w c) keep)) && not (eqb (corner w c) remove)) || (lives f w₃ (c / 3) && eqb (corner w c) keep))
       (λ c l e.
-      let here = right-of (lives f w₃ (c / 3)) (eqb (corner w c) remove) e in
+      let here = and-elim-right (lives f w₃ (c / 3)) (eqb (corner w c) remove) e in
       let elsewhere : eqb (corner w c) keep ≡ false = ne-eqb (corner w c) keep (λ p. apart (sym p ∙ eqb-true (corner w c) remove here)) in
       rw (here, elsewhere) (unlisted-remove (t .listed c) (lives f w₃ (c / 3))))
       (near .chains (λ c. (t .listed c && not (eqb (corner w c) keep)) && not (eqb (corner w c) remove))
       (λ c l e.
-      rw (right-of (lives f w₃ (c / 3)) (eqb (corner w c) keep) e) (unlisted-keep (t .listed c) (not (eqb (corner w c) remove))))
+      rw (and-elim-right (lives f w₃ (c / 3)) (eqb (corner w c) keep) e) (unlisted-keep (t .listed c) (not (eqb (corner w c) remove))))
       (d .chains))
 
   pub folded : {near-at n gone : ℕ} → Gathered v f w keep near-at n →
@@ -276,7 +271,7 @@ module _ {v f : ℕ} {w : List ℕ} {keep remove : ℕ} {w₃ w₄ w₅ : List �
           faces-proper = λ k l e.
               ap (proper v) (renamed-face k l e)
               ∙ renamed-proper keep remove v keep-v (faceAt w k) (t .faces-proper k l (lived k l e))
-              (right-of (lives f w k) (not (both keep remove (faceAt w k))) (sym (left k l) ∙ e));
+              (and-elim-right (lives f w k) (not (both keep remove (faceAt w k))) (sym (left k l) ∙ e));
           listed = listed';
           chains = chains';
           live-listed = λ c l e.
@@ -286,7 +281,7 @@ module _ {v f : ℕ} {w : List ℕ} {keep remove : ℕ} {w₃ w₄ w₅ : List �
         };
         same-faces =
             kept-changed (λ p. not (both keep remove p)) (renamedFace keep remove) (lives f w) (lives f w₅) (λ k. ltb k f) (faceAt w) (faceAt w₅)
-            (λ k l. left k (ltb-true k f l)) (λ k l. renamed-face k (ltb-true k f l)) (below f) (below-inside f);
+            (λ k l. left k (ltb-true k f l)) (λ k l. renamed-face k (ltb-true k f l)) (below f) (all-below f);
         counted =
             counting
             ∙ gathered-sums g (λ p. cond (holds remove p) 1 0)

@@ -4,3 +4,4 @@ pub mod CornerLaws
 pub mod RelistLaws
 pub mod FoldedLaws
 pub mod MovedLaws
+pub mod TriedLaws

@@ -7,7 +7,7 @@ use mathlib.Core.List.{List, map}
 use lib.Ieee.{Float}
 use lib.ListN.{length, set}
 use Rattle.geometry.specs.declared.Point.{Point}
-use Rattle.geometry.specs.Quadrics.{sum}
+use Rattle.geometry.specs.Quadrics.{quadricSum}
 use Rattle.placement.specs.declared.Limit.{Limit}
 use Rattle.placement.specs.declared.pair.Vertex.{Vertex}
 use Rattle.placement.specs.Choices.{kindOf}
@@ -17,7 +17,7 @@ use Rattle.walk.specs.Fold.{foldedMesh}
 use Rattle.memory.specs.Memory.{kind}
 use Rattle.memory.specs.Points.{quadricAt, vertexAt, withPoint, withQuadric, meshOf}
 use Rattle.meaning.specs.Arithmetic.{rulesOf, mergedVertex}
-use Rattle.memory.proofs.PointLaws.{point-length, point-rest, quadric-length, quadric-rest}
+use Rattle.memory.proofs.PointLaws.{point-stored, quadric-stored}
 use Rattle.lists.proofs.BelowLaws.{each-same}
 use Rattle.memory.proofs.MeshLaws.{mesh-of-parts, mesh-point, mesh-moved}
 use Rattle.folding.specs.Contracts.Folds.{FacesFolded, MeshFolded}
@@ -29,12 +29,12 @@ module _ {v f keep remove gone : ℕ} {w w' : List ℕ} (p q : List Float) (keep
     (placed : place ≡ pairPlace bound (vertexAt v f w p q keep) (vertexAt v f w p q remove)) where
   -- what keep carries is what the two carried, merged
   merged : _≡_ {A = Vertex}
-      (record { point = place; quadric = sum (quadricAt q keep) (quadricAt q remove); kind = kindOf (kind v f w keep) })
+      (record { point = place; quadric = quadricSum (quadricAt q keep) (quadricAt q remove); kind = kindOf (kind v f w keep) })
       (mergedVertex bound (vertexAt v f w p q keep) (vertexAt v f w p q remove))
   unfolding mergedVertex pairQuadric
   merged = rw placed
 
-  pub mesh-folded : {p' q' : List Float} → p' ≡ withPoint p keep place → q' ≡ withQuadric q keep (sum (quadricAt q keep) (quadricAt q remove)) →
+  pub mesh-folded : {p' q' : List Float} → p' ≡ withPoint p keep place → q' ≡ withQuadric q keep (quadricSum (quadricAt q keep) (quadricAt q remove)) →
       MeshFolded v f limit bound w p q keep remove w' p' q' gone
   unfolding meshOf foldedMesh rulesOf
   mesh-folded {p'} {q'} move add = record {
@@ -43,15 +43,15 @@ module _ {v f keep remove gone : ℕ} {w w' : List ℕ} (p q : List Float) (keep
     same-mesh =
         rw (move, add)
         (mesh-of-parts _ _ _ _
-        (each-same (vertexAt v f w (withPoint p keep place) (withQuadric q keep (sum (quadricAt q keep) (quadricAt q remove)))) _ v
+        (each-same (vertexAt v f w (withPoint p keep place) (withQuadric q keep (quadricSum (quadricAt q keep) (quadricAt q remove)))) _ v
         (λ x l. rw (h .but .over (kindsFrom v f + x) (omega arith)))
-        ∙ mesh-moved v f w p q keep place (sum (quadricAt q keep) (quadricAt q remove)) keep-v p-long q-long
+        ∙ mesh-moved v f w p q keep place (quadricSum (quadricAt q keep) (quadricAt q remove)) keep-v p-long q-long
         ∙ ap (set (map (vertexAt v f w p q) (below v)) keep)
         (merged ∙ sym (ap₂ (mergedVertex bound) (mesh-point v f w p q keep _ keep-v) (mesh-point v f w p q remove _ remove-v))))
         (h .same-faces));
     counted = h .counted;
-    same-length-p = rw move (point-length p keep place);
-    same-length-q = rw add (quadric-length q keep (sum (quadricAt q keep) (quadricAt q remove)));
-    rest-p = rw move (point-rest p keep place v keep-v);
-    rest-q = rw add (quadric-rest q keep (sum (quadricAt q keep) (quadricAt q remove)) v keep-v);
+    same-length-p = rw move (point-stored p keep place .same-length);
+    same-length-q = rw add (quadric-stored q keep (quadricSum (quadricAt q keep) (quadricAt q remove)) .same-length);
+    rest-p = rw move (point-stored p keep place .rest v keep-v);
+    rest-q = rw add (quadric-stored q keep (quadricSum (quadricAt q keep) (quadricAt q remove)) .rest v keep-v);
   }

@@ -5,12 +5,14 @@ use native.Mathlib.Omega.{arith}
 use mathlib.Core.Path.{_≡_, refl, sym, ap, _∙_}
 use mathlib.Core.List.{List, [], _∷_}
 use mathlib.Core.Bool.{Bool, true, false, _&&_, _||_, cond, and-false, or-true, or-false, or-assoc}
+use mathlib.Mathlib.Data.Bool.Basic.{and-elim-left, and-elim-right}
 use lib.Dec.{ltb, eqb}
 use lib.ListN.{length, set, length-set}
 use lib.Seq.{getD-set-same, getD-set-other}
 use borrow.Author.Tests.{ltb-true, le-ltb, eqb-true, eqb-false, eq-eqb, ne-eqb}
 use Rattle.lists.specs.Lists.{sum, count, every, some}
-use Rattle.lists.proofs.TestLaws.{by-test, clash, false-of, left-of, right-of}
+use Rattle.lists.proofs.TestLaws.{by-test, clash, false-of}
+use Rattle.lists.proofs.CondLaws.{cond-either}
 use Rattle.lists.proofs.EveryLaws.{every-head, every-tail, some-count}
 use Rattle.memory.specs.Memory.{corner, first, lives}
 use Rattle.lists.specs.Frames.{But}
@@ -29,12 +31,6 @@ pub record Relisted (v f new : ℕ) (picked : ℕ → Bool) (w w' : List ℕ) : 
   pub chains : (listed : ℕ → Bool) → ((c : ℕ) → c < 3 * f → picked c ≡ true → listed c ≡ false) →
       Chains v f w listed → Chains v f w' (λ c. listed c || picked c)
 
--- a corner picked twice
-picked-twice : (a b : Bool) (new old : ℕ) → cond b new (cond a new old) ≡ cond (a || b) new old
-picked-twice true true new old = refl
-picked-twice true false new old = refl
-picked-twice false b new old = refl
-
 module _ {v f new : ℕ} where
   -- none
   pub relisted-none : (w : List ℕ) → Relisted v f new (λ c. false) w w
@@ -52,7 +48,7 @@ module _ {v f new : ℕ} where
   relisted-then {picked} {picked'} {w} {w'} {w''} others p q = record {
     but = but-then (p .but) (q .but);
     lives-same = λ k l. q .lives-same k l ∙ p .lives-same k l;
-    corners = λ c l. q .corners c l ∙ rw (p .corners c l) (picked-twice (picked c) (picked' c) new (corner w c));
+    corners = λ c l. q .corners c l ∙ rw (p .corners c l) (cond-either (picked c) (picked' c) new (corner w c));
     chains = λ listed free h.
         chains-listed v f w'' (λ c. (listed c || picked c) || picked' c) (λ c. listed c || (picked c || picked' c))
         (λ c l. or-assoc (listed c) (picked c) (picked' c))
@@ -154,8 +150,8 @@ picks-apart f old k ks w w' absent c e =
     false-of (lives f w k && eqb c (cornerOf w k old))
     (λ h.
     let slot : c / 3 ≡ k =
-    ap (λ (n : ℕ). n / 3) (eqb-true c (cornerOf w k old) (right-of (lives f w k) (eqb c (cornerOf w k old)) h)) ∙ corner-slot w k old in
-    clash (left-of (some (λ i. eqb i (c / 3)) ks) (lives f w' (c / 3) && eqb c (cornerOf w' (c / 3) old)) e) (rw slot absent))
+    ap (λ (n : ℕ). n / 3) (eqb-true c (cornerOf w k old) (and-elim-right (lives f w k) (eqb c (cornerOf w k old)) h)) ∙ corner-slot w k old in
+    clash (and-elim-left (some (λ i. eqb i (c / 3)) ks) (lives f w' (c / 3) && eqb c (cornerOf w' (c / 3) old)) e) (rw slot absent))
 
 module _ {v f new : ℕ} (new-below : new < v) (old : ℕ) where
   -- the corners of a slot and those of the rest of the list

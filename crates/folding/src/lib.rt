@@ -1,4 +1,4 @@
-// The fold in lent memory (document 01, "A fold moves keep").
+// The fold in lent memory (document 01, "A fold moves keep"): tried by the fold test, and made where that allows it.
 ghost use mathlib.Core.Path.{_≡_};
 ghost use mathlib.Core.Logic.{_≢_};
 ghost use Prim.Native.Nat.{_+_, _*_, _≤_, _<_};
@@ -9,7 +9,7 @@ ghost use Rattle.placement.specs.Pairs.{pairPlace};
 ghost use Rattle.mesh.specs.Contracts.Chains.{Tidy};
 ghost use Rattle.mesh.specs.Contracts.Around.{Gathered};
 ghost use Rattle.memory.specs.Points.{vertexAt};
-ghost use Rattle.folding.specs.Contracts.Folds.{FacesFolded, MeshFolded};
+ghost use Rattle.folding.specs.Contracts.Folds.{FacesFolded, MeshFolded, FoldTried};
 ghost use Rattle.memory.specs.Layout.{nearFrom};
 
 mod steps;
@@ -19,9 +19,15 @@ use ring::Ring;
 use steps::kill;
 use steps::relist;
 
+// What trying a fold came to: it was made, and so many faces went, or it isn't allowed.
+pub enum Tried {
+    Folded(usize),
+    Refused,
+}
+
 // Folds remove into keep in the faces, by the live faces around the two. Says how many faces went.
 // The chains of both points are dropped and the live faces listed again, so that no chain grows with dead faces.
-pub fn fold_faces(w: &mut [u32], v: usize, f: usize, keep: u32, remove: u32, ring: Ring) -> usize
+fn fold_faces(w: &mut [u32], v: usize, f: usize, keep: u32, remove: u32, ring: Ring) -> usize
     requires { ⌜ Tidy v f (now w) ⌝ ∗ ⌜ (keep < v) × (remove < v) × (keep ≢ remove) ⌝ ∗ ⌜ Gathered v f (now w) keep (ring .near) (ring .nears) ⌝ ∗ ⌜ Gathered v f (now w) remove (ring .far) (ring .fars) ⌝ ∗ ⌜ (nearFrom v f ≤ ring .near) × (ring .near + f ≤ ring .far) × (ring .far + f ≤ length (now w)) ⌝ }
     ensures { λ r. ⌜ FacesFolded v f (now (w .entry)) keep remove (now (w .exit)) r ⌝ }
 {
@@ -34,7 +40,7 @@ pub fn fold_faces(w: &mut [u32], v: usize, f: usize, keep: u32, remove: u32, rin
 }
 
 // The whole fold: keep moves to its place and gets remove's quadric added, and the faces are folded. Says how many faces went.
-pub fn fold_mesh(
+fn fold_mesh(
     w: &mut [u32],
     p: &mut [f32],
     q: &mut [f64],
@@ -52,4 +58,24 @@ pub fn fold_mesh(
     let sum = memory::quadric_at(q, kept).sum(memory::quadric_at(q, removed));
     memory::set_quadric(q, kept, sum);
     fold_faces(w, v, f, fold.keep, fold.remove, ring)
+}
+
+// Tries a fold: it is made where the fold test allows it, and where not the mesh stays as it was. The faces around its two points are listed first.
+pub fn try_fold(
+    w: &mut [u32],
+    p: &mut [f32],
+    q: &mut [f64],
+    v: usize,
+    f: usize,
+    fold: Fold,
+) -> Tried
+    requires { ⌜ Tidy v f (now w) ⌝ ∗ ⌜ (fold .keep < v) × (fold .remove < v) × (fold .keep ≢ fold .remove) ⌝ ∗ ⌜ (3 * v ≤ length (now p)) × (10 * v ≤ length (now q)) ⌝ }
+    ensures { λ r. ⌜ ((limit : LimitS) (bound : Float) → fold .place ≡ pairPlace bound (vertexAt v f (now (w .entry)) (now (p .entry)) (now (q .entry)) (fold .keep)) (vertexAt v f (now (w .entry)) (now (p .entry)) (now (q .entry)) (fold .remove)) → FoldTried v f limit bound (now (w .entry)) (now (p .entry)) (now (q .entry)) (fold .keep) (fold .remove) (now (w .exit)) (now (p .exit)) (now (q .exit)) r) ⌝ }
+{
+    let ring = ring::gather(w, v, f, fold.keep, fold.remove);
+    if foldtest::is_allowed(w, p, v, f, fold, ring) {
+        let gone = fold_mesh(w, p, q, v, f, fold, ring);
+        return Tried::Folded(gone);
+    }
+    Tried::Refused
 }

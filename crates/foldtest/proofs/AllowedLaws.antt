@@ -1,9 +1,9 @@
 -- The fold test in memory is the definition's: for any quadrics, length limit and bound for which the place is the pair's.
 -- Assumes nothing.
 use Prim.Native.Nat.{ℕ, _<_}
-use mathlib.Core.Path.{_≡_, refl, sym, ap, ap₂, _∙_}
+use mathlib.Core.Path.{_≡_, sym, ap, ap₂, _∙_}
 use mathlib.Core.List.{List}
-use mathlib.Core.Bool.{Bool, true, _&&_, _||_, cond}
+use mathlib.Core.Bool.{Bool, true, _&&_, _||_}
 use lib.Dec.{leb, eqb}
 use lib.Ieee.{Float}
 use Rattle.geometry.specs.declared.Point.{Point}
@@ -12,36 +12,26 @@ use Rattle.placement.specs.declared.pair.Vertex.{Vertex}
 use Rattle.placement.specs.Pairs.{pairPlace}
 use Rattle.walk.specs.declared.Face.{Face}
 use Rattle.lists.specs.Lists.{every}
-use Rattle.walk.specs.Faces.{proper, shared, common, faceAt, dataOf, mergedOf}
+use Rattle.walk.specs.Faces.{proper, shared, common, dataOf, mergedOf}
 use Rattle.walk.specs.FoldTest.{movedOf, fairFace, allowed}
 use Rattle.walk.specs.Pairs.{pairOf}
-use Rattle.lists.proofs.TestLaws.{by-test, by-outcome as by-outcome}
-use Rattle.lists.proofs.EveryLaws.{map-same, every-map, every-counted}
+use Rattle.lists.proofs.TestLaws.{by-test}
+use Rattle.lists.proofs.EveryLaws.{map-same, every-map}
 use Rattle.walk.proofs.FaceLaws.{corners}
-use Rattle.memory.specs.Memory.{lives, liveFaces, Proper}
-use Rattle.lists.proofs.BelowLaws.{sum-none}
-use Rattle.mesh.proofs.AroundLaws.{live-sums}
+use Rattle.memory.specs.Memory.{liveFaces, Proper}
 use Rattle.meaning.specs.Input.{pointAt}
 use Rattle.memory.specs.Points.{vertexAt, meshOf}
 use Rattle.meaning.specs.Arithmetic.{mergedVertex, rulesOf}
 use Rattle.memory.proofs.MeshLaws.{mesh-length, mesh-point}
 use Rattle.foldtest.specs.Contracts.Fair.{movedAt, fairFaceAt}
 use Rattle.foldtest.specs.Contracts.Allowed.{allowedAt}
+use Rattle.mesh.proofs.AroundLaws.{live-proper}
 
 -- two tests that agree where a third passes, over a list where every one passes that
 every-agree : {A : Type 0} (test other ok : A → Bool) → ((x : A) → ok x ≡ true → test x ≡ other x) →
     (xs : List A) → every ok xs ≡ true → every test xs ≡ every other xs
 every-agree test other ok same xs all =
     sym (every-map (λ b. b) test xs) ∙ ap (every (λ (b : Bool). b)) (map-same test other ok same xs all) ∙ every-map (λ b. b) other xs
-
--- every live face has three distinct points below v
-live-proper : (v f : ℕ) (w : List ℕ) → Proper v f w → every (proper v) (liveFaces f w) ≡ true
-live-proper v f w good =
-    every-counted (proper v) (liveFaces f w)
-    (live-sums f w (λ q. cond (proper v q) 0 1)
-    ∙ sum-none _ f (λ k l.
-    by-outcome (λ (b : Bool). b ≡ lives f w k → _≡_ {A = ℕ} (cond b (cond (proper v (faceAt w k)) 0 1) 0) 0) (lives f w k)
-    (λ e s. rw (good k l e)) (λ e s. refl) refl))
 
 module _ (limit : Limit) (bound : Float) (v f : ℕ) (w : List ℕ) (p q : List Float) {keep remove : ℕ} {place : Point}
     (keep-below : keep < v) (remove-below : remove < v)

@@ -37,8 +37,8 @@ ofPlane p =
     }
 
 -- entry by entry
-abbrev pub sum : Quadric → Quadric → Quadric
-sum q r =
+abbrev pub quadricSum : Quadric → Quadric → Quadric
+quadricSum q r =
     record {
       m11 = add binary64 (q .m11) (r .m11);
       m12 = add binary64 (q .m12) (r .m12);

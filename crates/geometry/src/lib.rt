@@ -3,7 +3,7 @@ ghost use mathlib.Core.Path.{_≡_};
 ghost use lib.Ieee.Scale.{finite};
 ghost use Rattle.geometry.specs.Points.{difference, cross, dot, over, norm, middle, normal, allFinite};
 ghost use Rattle.geometry.specs.Planes.{planeOf, unitNormal};
-ghost use Rattle.geometry.specs.Quadrics.{zeroQuadric, ofPlane, sum};
+ghost use Rattle.geometry.specs.Quadrics.{zeroQuadric, ofPlane, quadricSum};
 
 // A point, or the way from one point to another.
 pub struct Point {
@@ -190,7 +190,7 @@ impl Quadric {
 
     // The sum with the other, entry by entry.
     pub fn sum(self, other: Quadric) -> Quadric
-        ensures { λ r. ⌜ r ≡ sum self other ⌝ }
+        ensures { λ r. ⌜ r ≡ quadricSum self other ⌝ }
     {
         Quadric {
             m11: self.m11 + other.m11,

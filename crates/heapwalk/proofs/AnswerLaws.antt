@@ -69,11 +69,11 @@ module _ {v f : ℕ} {w : List ℕ} {p q : List Float} {n live : ℕ} {bound : F
 
 -- what the test says decides which answer is given
 pub tried-by : (v f : ℕ) (w : List ℕ) (p q : List Float) (n keep remove : ℕ) (limit : Limit) (bound : Float) {w' : List ℕ} {p' q' : List Float} {r : Stepped}
-    (ok passed : Bool) → ok ≡ passed → ok ≡ allowed (rulesOf limit bound) (meshOf v f w p q) (pairOf keep remove) →
+    {passed : Bool} → allowed (rulesOf limit bound) (meshOf v f w p q) (pairOf keep remove) ≡ passed →
     PairAnswer v f w p q n keep remove limit bound (cond passed (folded (pairOf keep remove)) (closed (pairOf keep remove))) w' p' q' r →
     PairAnswer v f w p q n keep remove limit bound (tried (rulesOf limit bound) (meshOf v f w p q) (pairOf keep remove)) w' p' q' r
 unfolding tried
-tried-by v f w p q n keep remove limit bound ok passed e is done = rw (← is, e) done
+tried-by v f w p q n keep remove limit bound is done = rw is done
 
 -- what is done after cells of near and far have changed is done to the state as it was
 pub tried-before : {v f : ℕ} {w w₁ : List ℕ} {p q : List Float} {n live lo hi : ℕ} {limit : Limit} {bound : Float} {keep remove : ℕ} {place : Point}

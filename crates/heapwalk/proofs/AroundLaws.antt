@@ -21,7 +21,6 @@ use Rattle.lists.proofs.BelowLaws.{sum-none, count-below-most, sum-same-below, 
 use Rattle.lists.proofs.EveryLaws.{every-counted}
 use Rattle.memory.specs.Points.{meshOf}
 use Rattle.meaning.specs.Arithmetic.{rulesOf}
-use Rattle.openpairs.proofs.MeshLaws.{mesh-points}
 use Rattle.ring.specs.Contracts.Listing.{isAround, AroundListed}
 use Rattle.openpairs.specs.Contracts.Edges.{openedAround}
 use Rattle.openpairs.specs.Contracts.Waiting.{fits}
@@ -32,6 +31,7 @@ use Rattle.heapwalk.specs.Contracts.Listing.{pairsWith, Enterable, Enter
 use Rattle.heapwalk.proofs.QueueFrames.{fits-stays, open-lists, held-lists}
 use Rattle.memory.specs.Layout.{aroundFrom}
 use Rattle.lists.proofs.CondLaws.{cond-and}
+use Rattle.memory.proofs.MeshLaws.{mesh-length}
 
 module _ {v f : ℕ} {w w₁ : List ℕ} {p q : List Float} {n : ℕ} {rising : Bool} {x count : ℕ} {bound : Float}
     (held : Open v f w p q n bound) (x-in : x < v) (around : AroundListed v f w rising x w₁ count) where
@@ -74,7 +74,7 @@ module _ {v f : ℕ} {w w₁ : List ℕ} {p q : List Float} {n : ℕ} {rising : 
       ∙ sum-those weight test (below v)
       ∙ sum-same-below _ (λ y. cond (test y && eligiblePair rules m (pairOf x y)) (g (pairOf x y)) 0) v
       (λ y l. sym (cond-and (test y) _ (g (pairOf x y))) ∙ ap (λ (b : Bool). cond (test y && b) (g (pairOf x y)) 0) (fitting y l))
-      ∙ ap (λ (k : ℕ). sum (λ y. cond (test y && eligiblePair rules m (pairOf x y)) (g (pairOf x y)) 0) (below k)) (sym (mesh-points v f w p q))
+      ∙ ap (λ (k : ℕ). sum (λ y. cond (test y && eligiblePair rules m (pairOf x y)) (g (pairOf x y)) 0) (below k)) (sym (mesh-length v f w p q))
       ∙ sym (around-sum rules m rising x g)
 
   pub around-ready : (limit : Limit) → length (openIn v f w n) + length (openedAround (rulesOf limit bound) (meshOf v f w p q) rising x) ≤ 3 * f →

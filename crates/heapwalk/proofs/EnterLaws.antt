@@ -10,15 +10,10 @@ use lib.Dec.{ltb}
 use lib.Ieee.{Float}
 use lib.ListN.{length, getD, length-map, length-append}
 use borrow.Author.Tests.{ltb-true, lt-ltb}
-use Rattle.geometry.specs.declared.Point.{Point}
 use Rattle.placement.specs.declared.Limit.{Limit}
-use Rattle.placement.specs.declared.pair.Vertex.{Vertex}
-use Rattle.placement.specs.declared.pair.Candidate.the-variants.{Eligible, Ineligible}
-use Rattle.placement.specs.Pairs.{pairCost, pairPlace, eligible, pairCandidate}
 use Rattle.walk.specs.declared.Pair.{Pair}
 use Rattle.lists.specs.Lists.{sum, those, every, below}
 use Rattle.walk.specs.Pairs.{pairOf}
-use Rattle.lists.proofs.TestLaws.{by-test}
 use Rattle.lists.proofs.EveryLaws.{every-head, every-cons, length-those, every-at, those-append}
 use Rattle.lists.proofs.SumLaws.{sum-append, sum-map, sum-length}
 use Rattle.lists.proofs.FrameLaws.{but-refl, but-then, floats-refl, floats-then}
@@ -33,26 +28,6 @@ use Rattle.heapwalk.specs.Contracts.Entering.{Open, Entered}
 use Rattle.heapwalk.specs.Contracts.Listing.{pairsWith, Enterable, EnteredBeside}
 use Rattle.heapwalk.proofs.QueueFrames.{fits-stays}
 use Rattle.memory.specs.Layout.{aroundFrom}
-
--- ---- a pair's candidate
-
--- it is one where the pair is eligible, with the pair's cost and place
-pub candidate-eligible : (limit : Limit) (bound : Float) (keep remove : Vertex) (cost : Float) (place : Point) →
-    Eligible cost place ≡ pairCandidate limit bound keep remove →
-    (eligible limit bound keep remove ≡ true) × (cost ≡ pairCost bound keep remove) × (place ≡ pairPlace bound keep remove)
-unfolding pairCandidate
-candidate-eligible limit bound keep remove cost place is =
-    by-test (eligible limit bound keep remove)
-    (λ e. let same = rw e at is in (e, (cc), (cc)))
-    (λ e. let other = rw e at is in let no : _≡_ {A = ℕ} 0 1 = cc in absurd (omega arith))
-
-pub candidate-none : (limit : Limit) (bound : Float) (keep remove : Vertex) → Ineligible ≡ pairCandidate limit bound keep remove →
-    eligible limit bound keep remove ≡ false
-unfolding pairCandidate
-candidate-none limit bound keep remove is =
-    by-test (eligible limit bound keep remove)
-    (λ e. let other = rw e at is in let no : _≡_ {A = ℕ} 0 1 = cc in absurd (omega arith))
-    (λ e. e)
 
 -- ---- one change after another
 

@@ -16,19 +16,18 @@ use Rattle.placement.specs.declared.Limit.{Limit}
 use Rattle.placement.specs.declared.pair.Vertex.{Vertex}
 use Rattle.lists.specs.Lists.{sum, those}
 use Rattle.walk.specs.Faces.{Mesh, mergedOf}
-use Rattle.walk.specs.Fold.{foldedFaces, foldedMesh}
+use Rattle.walk.specs.Fold.{foldedMesh}
 use Rattle.walk.specs.Walk.{folded, after, SameState}
 use Rattle.walk.specs.Pairs.{pairOf, apart, opened}
 use Rattle.lists.proofs.SumLaws.{sum-append}
 use Rattle.lists.proofs.TestLaws.{neither-of, flag-le}
-use Rattle.walk.proofs.FoldLaws.{fold-exact}
 use Rattle.walk.proofs.SoundLaws.{fold-sound}
 use Rattle.walk.proofs.StepLaws.{fold-room}
 use Rattle.memory.specs.Memory.{liveFaces, Room}
 use Rattle.lists.specs.Frames.{But}
 use Rattle.lists.proofs.FrameLaws.{but-then, but-widen}
 use Rattle.mesh.proofs.TidyLaws.{tidy-but}
-use Rattle.mesh.proofs.AroundLaws.{live-faces-but}
+use Rattle.mesh.proofs.AroundLaws.{live-faces-but, live-few}
 use Rattle.memory.specs.Points.{vertexAt, meshOf}
 use Rattle.meaning.specs.Arithmetic.{rulesOf}
 use Rattle.memory.proofs.MeshLaws.{mesh-point, mesh-but}
@@ -40,7 +39,7 @@ use Rattle.heapwalk.specs.Contracts.Entering.{Open, Entered}
 use Rattle.plainwalk.specs.declared.Step.the-variants.{Folded}
 use Rattle.walk.proofs.StateLaws.{sound-bag}
 use Rattle.plainwalk.specs.Steps.{StepWithin}
-use Rattle.plainwalk.proofs.MemoryLaws.{live-few, within-then}
+use Rattle.plainwalk.proofs.MemoryLaws.{within-then}
 use Rattle.lists.proofs.DropLaws.{rest-more, past-drop}
 use Rattle.walk.proofs.PairLaws.{touches, spared-apart, without-self}
 use Rattle.heapwalk.specs.Steps.{pairState, PairHolds, PairAnswer}
@@ -48,17 +47,14 @@ use Rattle.queue.proofs.MovedLaws.{Moved, queue-moved, fewer-moved, open-moved,
 use Rattle.heapwalk.proofs.MemoryLaws.{mesh-floats, pair-open, pair-points, pair-differ, pair-shared}
 use Rattle.heapwalk.proofs.StampLaws.{bumped, first-room, first-stamp, both-but, both-stamps}
 use Rattle.memory.specs.Layout.{costsTo, keepStampsFrom, keepsFrom, orderFrom, placesTo, removeStampsFrom, removesFrom, stampsFrom}
+use Rattle.folding.proofs.TriedLaws.{folded-live}
 
 module _ {v f : ℕ} {w : List ℕ} {p q : List Float} {n live : ℕ} {limit : Limit} {bound : Float} {keep remove : ℕ} {place : Point}
     {w₁ : List ℕ} {p' q' : List Float} {gone : ℕ}
     (h : PairHolds v f w p q n live bound keep remove place) (fold : MeshFolded v f limit bound w p q keep remove w₁ p' q' gone) where
   -- the faces that are gone and those that are left are the faces before
-  folded-faces : liveFaces f w₁ ≡ foldedFaces (liveFaces f w) (pairOf keep remove)
-  unfolding meshOf foldedMesh
-  folded-faces = ap (λ (m : Mesh Vertex). m .faces) (fold .same-mesh)
-
-  pub folded-live : length (liveFaces f w₁) + gone ≡ live
-  folded-live = omega (arith, fold-exact (liveFaces f w) (pairOf keep remove), ap length folded-faces, fold .counted, h .held .counted)
+  pub left-live : length (liveFaces f w₁) + gone ≡ live
+  left-live = folded-live fold ∙ sym (h .held .counted)
 
   -- keep's stamp may grow, and then remove's: they are far from the machine's greatest number
   pub keep-grows : (keep < v) × Room v f w₁ × (stamp v f w₁ keep + 1 < 2 ^ 32)
@@ -210,7 +206,7 @@ module _ {v f : ℕ} {w : List ℕ} {p q : List Float} {n live : ℕ} {limit : L
             stamps-are x l,
             flag-le (touches keep remove x),
             h .held .young x l,
-            folded-live,
+            left-live,
             fold .counted,
             pair-shared h,
           )
@@ -225,7 +221,7 @@ module _ {v f : ℕ} {w : List ℕ} {p q : List Float} {n live : ℕ} {limit : L
                   «open» = enter .«open»;
                   sound = sound-bag folded-state (fold-sound (rulesOf limit bound) (pairState v f w p q n x) (h .held .sound) x (pair-open h));
                   counted =
-                      let left : live - gone ≡ length (liveFaces f w₁) = omega (arith, folded-live) in
+                      let left : live - gone ≡ length (liveFaces f w₁) = omega (arith, left-live) in
                       left ∙ sym (ap length (live-faces-but f (enter .enqueued .but) (omega arith) ∙ live-faces-but f stamps-but (omega arith)));
                   young = still-young;
                 };

@@ -7,6 +7,7 @@ pub mod MemoryLaws
 pub mod StampLaws
 pub mod FoldedLaws
 pub mod AnswerLaws
+mod TriedLaws
 pub mod TakenLaws
 pub mod HoldLaws
 pub mod Theorems

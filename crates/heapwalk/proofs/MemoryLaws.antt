@@ -14,7 +14,7 @@ use Rattle.placement.specs.Pairs.{pairPlace}
 use Rattle.walk.specs.declared.Pair.{Pair}
 use Rattle.lists.specs.Lists.{sum}
 use Rattle.walk.specs.Faces.{shared}
-use Rattle.walk.specs.Walk.{State, Answer, after, SameState}
+use Rattle.walk.specs.Walk.{State, StepAnswer, after, SameState}
 use Rattle.walk.specs.Pairs.{pairOf}
 use Rattle.walk.proofs.SamePairs.{same-self}
 use Rattle.walk.proofs.SoundLaws.{isOpen, open-differ, open-shared, open-below}
@@ -25,13 +25,13 @@ use Rattle.mesh.proofs.AroundLaws.{live-faces-but}
 use Rattle.memory.specs.Points.{vertexAt, meshOf}
 use Rattle.meaning.specs.Arithmetic.{rulesOf}
 use Rattle.lists.proofs.BelowLaws.{each-same}
-use Rattle.memory.proofs.MeshLaws.{mesh-length, mesh-of-parts, mesh-but}
+use Rattle.memory.proofs.MeshLaws.{mesh-length, mesh-of-parts, vertex-but, mesh-but}
 use Rattle.queue.specs.State.{openIn}
 use Rattle.heapwalk.specs.Contracts.Entering.{Open}
 use Rattle.plainwalk.specs.declared.Stepped.{Stepped}
 use Rattle.walk.proofs.StateLaws.{same-trans}
 use Rattle.plainwalk.specs.Steps.{StepWithin}
-use Rattle.plainwalk.proofs.MemoryLaws.{vertex-but, within-then}
+use Rattle.plainwalk.proofs.MemoryLaws.{within-then}
 use Rattle.heapwalk.specs.Steps.{pairState, PairHolds, HeapAnswer}
 use Rattle.heapwalk.proofs.QueueFrames.{open-lists, held-lists}
 use Rattle.memory.specs.Layout.{nearFrom, orderFrom, stampsFrom}
@@ -64,7 +64,7 @@ mesh-floats v f w {p} {q} {p'} {q'} points quadrics =
 
 -- ---- an answer that is given after a change that leaves the state
 
-pub answer-before : {v f : ℕ} {s t : State Vertex} {w w₁ : List ℕ} {p q p₁ q₁ : List Float} {limit : Limit} {bound : Float} {a b : Answer}
+pub answer-before : {v f : ℕ} {s t : State Vertex} {w w₁ : List ℕ} {p q p₁ q₁ : List Float} {limit : Limit} {bound : Float} {a b : StepAnswer}
     {w' : List ℕ} {p' q' : List Float} {r : Stepped} → StepWithin v f w p q w₁ p₁ q₁ → SameState t s → b ≡ a →
     HeapAnswer v f t w₁ p₁ q₁ limit bound b w' p' q' r → HeapAnswer v f s w p q limit bound a w' p' q' r
 answer-before {v} {f} {s} {t} {limit = limit} {bound = bound} {a = a} {b = b} within same e done = record {
@@ -73,7 +73,7 @@ answer-before {v} {f} {s} {t} {limit = limit} {bound = bound} {a = a} {b = b} wi
   same-answer = done .same-answer ∙ e;
   same-state =
       same-trans (done .same-state)
-      (subst (λ (c : Answer). SameState (after (rulesOf limit bound) t b) (after (rulesOf limit bound) s c)) e (after-bag (rulesOf limit bound) same b));
+      (subst (λ (c : StepAnswer). SameState (after (rulesOf limit bound) t b) (after (rulesOf limit bound) s c)) e (after-bag (rulesOf limit bound) same b));
 }
 
 -- ---- a pair that is off the queue

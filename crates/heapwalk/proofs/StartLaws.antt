@@ -22,9 +22,8 @@ use Rattle.lists.proofs.FrameLaws.{but-then, but-widen}
 use Rattle.mesh.proofs.TidyLaws.{tidy-but}
 use Rattle.memory.specs.Points.{meshOf}
 use Rattle.meaning.specs.Arithmetic.{rulesOf}
-use Rattle.openpairs.proofs.MeshLaws.{mesh-points}
 use Rattle.openpairs.specs.Contracts.Edges.{risingFrom}
-use Rattle.memory.proofs.MeshLaws.{mesh-but}
+use Rattle.memory.proofs.MeshLaws.{mesh-but, mesh-length}
 use Rattle.openpairs.proofs.StartLaws.{started-few, rising-sum}
 use Rattle.queue.specs.State.{openIn}
 use Rattle.queue.specs.Contracts.Changes.{Emptied}
@@ -76,7 +75,7 @@ module _ {v f : ℕ} {w w₀ : List ℕ} {p q : List Float} (tidy : Tidy v f w) 
         let m = meshOf v f w₀ p q in
         let each : ℕ → ℕ = λ y. sum (λ r. 1) (risingFrom rules m y) in
         let all-open : sum each (below v) ≡ sum (λ r. 1) (started rules m .«open») =
-        ap (λ (k : ℕ). sum each (below k)) (sym (mesh-points v f w₀ p q)) ∙ rising-sum rules m (λ r. 1) in
+        ap (λ (k : ℕ). sum each (below k)) (sym (mesh-length v f w₀ p q)) ∙ rising-sum rules m (λ r. 1) in
         rw same-mesh
         (omega (
           arith,
@@ -123,7 +122,7 @@ module _ {v f : ℕ} {w w₀ : List ℕ} {p q : List Float} (tidy : Tidy v f w) 
               put .sums g
               ∙ ap₂ _+_ (ap (λ (ps : List Pair). sum g ps) (open-none v f w₀)) (sum-flatMap g from (below x))
               ∙ zero-add _
-              ∙ ap (λ (k : ℕ). sum (λ y. sum g (from y)) (below k)) (e ∙ sym (mesh-points v f w₀ p q))
+              ∙ ap (λ (k : ℕ). sum (λ y. sum g (from y)) (below k)) (e ∙ sym (mesh-length v f w₀ p q))
               ∙ rising-sum rules m g
               ∙ ap (λ (m : Mesh Vertex). sum g (started rules m .«open»)) (mesh-but v f p q (emptied .but) (omega arith));
         }

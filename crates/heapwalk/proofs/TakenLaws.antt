@@ -26,7 +26,7 @@ use Rattle.mesh.proofs.TidyLaws.{tidy-but}
 use Rattle.mesh.proofs.AroundLaws.{live-faces-but}
 use Rattle.memory.specs.Points.{meshOf}
 use Rattle.meaning.specs.Arithmetic.{rulesOf}
-use Rattle.memory.proofs.MeshLaws.{mesh-length, mesh-but}
+use Rattle.memory.proofs.MeshLaws.{mesh-length, vertex-but, mesh-but}
 use Rattle.memory.specs.Entries.{pairAt, slotAt, queued}
 use Rattle.openpairs.specs.Contracts.Ranks.{rankedAt}
 use Rattle.openpairs.proofs.LeastLaws.{order-rank}
@@ -37,7 +37,7 @@ use Rattle.queue.specs.declared.Taken.the-variants.{Entry, Empty}
 use Rattle.queue.specs.Contracts.Changes.{TakenOff, NoneLeft, TookCurrent}
 use Rattle.plainwalk.specs.declared.Stepped.{Stepped}
 use Rattle.walk.proofs.StateLaws.{sound-bag}
-use Rattle.plainwalk.proofs.MemoryLaws.{vertex-but, within-but}
+use Rattle.plainwalk.proofs.MemoryLaws.{within-but}
 use Rattle.heapwalk.specs.Steps.{pairState, topState, HeapHolds, TopHolds, TopTried, HeapStepDone}
 use Rattle.lists.proofs.BelowLaws.{every-below}
 use Rattle.queue.proofs.OrderLaws.{place-queued}

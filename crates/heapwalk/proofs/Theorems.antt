@@ -25,8 +25,8 @@ use Rattle.plainwalk.specs.Whole.{WalkDone}
 use Rattle.walk.proofs.StateLaws.{SoundFew, plain-alike, same-trans}
 use Rattle.plainwalk.proofs.LentLaws.{lent, points-few}
 use Rattle.heapwalk.proofs.HoldLaws.{byHeap}
-use Rattle.plainwalk.proofs.MemoryLaws.{live-few}
 use Rattle.heapwalk.specs.Steps.{HeapHolds, HeapStepDone}
+use Rattle.mesh.proofs.AroundLaws.{live-few}
 
 -- ---- room
 

@@ -9,7 +9,7 @@ use Rattle.placement.specs.declared.pair.Vertex.{Vertex}
 use Rattle.placement.specs.Pairs.{pairPlace}
 use Rattle.geometry.specs.declared.Point.{Point}
 use Rattle.walk.specs.declared.Pair.{Pair}
-use Rattle.walk.specs.Walk.{State, Answer, tried, answer, after, SameState}
+use Rattle.walk.specs.Walk.{State, StepAnswer, tried, answer, after, SameState}
 use Rattle.walk.specs.Pairs.{pairOf}
 use Rattle.walk.specs.Sound.{Sound}
 use Rattle.memory.specs.Memory.{liveFaces}
@@ -54,7 +54,7 @@ pub record PairHolds (v f : ℕ) (w : List ℕ) (p q : List Float) (n live : ℕ
   pub same-place : place ≡ pairPlace bound (vertexAt v f w p q keep) (vertexAt v f w p q remove)
 
 -- An answer is given and acted on in a state s: the state after it is the plain walk's, the open pairs in any order.
-pub record HeapAnswer (v f : ℕ) (s : State Vertex) (w : List ℕ) (p q : List Float) (limit : Limit) (bound : Float) (a : Answer) (w' : List ℕ)
+pub record HeapAnswer (v f : ℕ) (s : State Vertex) (w : List ℕ) (p q : List Float) (limit : Limit) (bound : Float) (a : StepAnswer) (w' : List ℕ)
     (p' q' : List Float) (r : Stepped) : Type 0 where
   pub holds : HeapHolds v f w' p' q' (r .«open») (r .live) bound
   pub within : StepWithin v f w p q w' p' q'
@@ -62,7 +62,7 @@ pub record HeapAnswer (v f : ℕ) (s : State Vertex) (w : List ℕ) (p q : List 
   pub same-state : SameState (heapState v f w' p' q' (r .«open»)) (after (rulesOf limit bound) s a)
 
 -- the same in a state with a pair that is off the queue
-abbrev pub PairAnswer : (v f : ℕ) (w : List ℕ) (p q : List Float) (n keep remove : ℕ) (limit : Limit) (bound : Float) (a : Answer) (w' : List ℕ) (p' q' : List Float)
+abbrev pub PairAnswer : (v f : ℕ) (w : List ℕ) (p q : List Float) (n keep remove : ℕ) (limit : Limit) (bound : Float) (a : StepAnswer) (w' : List ℕ) (p' q' : List Float)
     (r : Stepped) → Type 0
 PairAnswer v f w p q n keep remove limit bound a w' p' q' r = HeapAnswer v f (pairState v f w p q n (pairOf keep remove)) w p q limit bound a w' p' q' r
 

@@ -3,87 +3,29 @@ ghost use mathlib.Core.Path.{_≡_};
 ghost use Prim.Native.Nat.{_+_, _≤_};
 ghost use lib.ListN.{length};
 ghost use Rattle.walk.specs.Pairs.{pairOf};
-ghost use Rattle.walk.specs.Walk.{folded, tried};
+ghost use Rattle.walk.specs.Walk.{tried};
 ghost use Rattle.memory.specs.Memory.{liveFaces};
 ghost use Rattle.mesh.specs.Contracts.Chains.{Tidy};
 ghost use Rattle.memory.specs.Points.{meshOf};
 ghost use Rattle.meaning.specs.Arithmetic.{rulesOf};
 ghost use Rattle.queue.specs.State.{heapState};
 ghost use Rattle.plainwalk.specs.Whole.{WalkedFrom, WalkDone};
-ghost use Rattle.ring.specs.Contracts.Rings.{Ringed};
 ghost use Rattle.heapwalk.specs.Steps.{PairHolds, PairAnswer, HeapHolds, TopHolds, TopTried, HeapStepDone};
 ghost use Rattle.memory.specs.Layout.{costsTo, placesTo};
 
 mod entering;
 
+use folding::Tried;
 use placement::Bounds;
 use placement::Fold;
 use plainwalk::Step;
 use plainwalk::Stepped;
 use plainwalk::Walked;
 use queue::Taken;
-use ring::Ring;
 use walk::Pair;
 
-// Folds the pair of the entry that was taken off: the mesh, then both stamps, then the pairs that the fold opens. The faces around its points are listed.
-fn fold_top(
-    w: &mut [u32],
-    p: &mut [f32],
-    q: &mut [f64],
-    v: usize,
-    f: usize,
-    entries: usize,
-    live: usize,
-    fold: Fold,
-    ring: Ring,
-    bounds: Bounds,
-) -> Stepped
-    requires { ⌜ PairHolds v f (now w) (now p) (now q) entries live (bounds .size) (fold .keep) (fold .remove) (fold .place) ⌝ ∗ ⌜ Ringed v f (now w) (fold .keep) (fold .remove) ring ⌝ }
-    ensures { λ r. ⌜ PairAnswer v f (now (w .entry)) (now (p .entry)) (now (q .entry)) entries (fold .keep) (fold .remove) (bounds .limit) (bounds .size) (folded (pairOf (fold .keep) (fold .remove))) (now (w .exit)) (now (p .exit)) (now (q .exit)) r ⌝ }
-{
-    let keep = fold.keep;
-    let remove = fold.remove;
-    let gone = folding::fold_mesh(w, p, q, v, f, fold, ring);
-    queue::bump(w, v, f, keep as usize);
-    queue::bump(w, v, f, remove as usize);
-    let more = entering::enter_around(w, p, q, v, f, entries, false, keep, bounds);
-    let left = live - gone;
-    Stepped {
-        step: Step::Folded(Pair { keep, remove }),
-        open: more,
-        live: left,
-    }
-}
-
-// Folds the pair where that is allowed, and closes it where it is not: its entry is off the queue already. The faces around its points are listed.
-fn fold_or_close(
-    w: &mut [u32],
-    p: &mut [f32],
-    q: &mut [f64],
-    v: usize,
-    f: usize,
-    entries: usize,
-    live: usize,
-    fold: Fold,
-    ring: Ring,
-    bounds: Bounds,
-) -> Stepped
-    requires { ⌜ PairHolds v f (now w) (now p) (now q) entries live (bounds .size) (fold .keep) (fold .remove) (fold .place) ⌝ ∗ ⌜ Ringed v f (now w) (fold .keep) (fold .remove) ring ⌝ }
-    ensures { λ r. ⌜ PairAnswer v f (now (w .entry)) (now (p .entry)) (now (q .entry)) entries (fold .keep) (fold .remove) (bounds .limit) (bounds .size) (tried (rulesOf (bounds .limit) (bounds .size)) (meshOf v f (now (w .entry)) (now (p .entry)) (now (q .entry))) (pairOf (fold .keep) (fold .remove))) (now (w .exit)) (now (p .exit)) (now (q .exit)) r ⌝ }
-{
-    if foldtest::is_allowed(w, p, v, f, fold, ring) {
-        return fold_top(w, p, q, v, f, entries, live, fold, ring, bounds);
-    }
-    let keep = fold.keep;
-    let remove = fold.remove;
-    Stepped {
-        step: Step::Closed(Pair { keep, remove }),
-        open: entries,
-        live,
-    }
-}
-
-// Tries a pair that is off the queue, with the faces around its two points listed first.
+// Tries a pair that is off the queue: the mesh is folded where that is allowed, and then both stamps rise and the pairs around keep are entered; where it isn't
+// allowed the pair is closed, and its entry is off the queue already.
 fn try_pair(
     w: &mut [u32],
     p: &mut [f32],
@@ -98,8 +40,26 @@ fn try_pair(
     requires { ⌜ PairHolds v f (now w) (now p) (now q) entries live (bounds .size) (fold .keep) (fold .remove) (fold .place) ⌝ }
     ensures { λ r. ⌜ PairAnswer v f (now (w .entry)) (now (p .entry)) (now (q .entry)) entries (fold .keep) (fold .remove) (bounds .limit) (bounds .size) (tried (rulesOf (bounds .limit) (bounds .size)) (meshOf v f (now (w .entry)) (now (p .entry)) (now (q .entry))) (pairOf (fold .keep) (fold .remove))) (now (w .exit)) (now (p .exit)) (now (q .exit)) r ⌝ }
 {
-    let ring = ring::gather(w, v, f, fold.keep, fold.remove);
-    fold_or_close(w, p, q, v, f, entries, live, fold, ring, bounds)
+    let keep = fold.keep;
+    let remove = fold.remove;
+    match folding::try_fold(w, p, q, v, f, fold) {
+        Tried::Folded(gone) => {
+            queue::bump(w, v, f, keep as usize);
+            queue::bump(w, v, f, remove as usize);
+            let more = entering::enter_around(w, p, q, v, f, entries, false, keep, bounds);
+            let left = live - gone;
+            Stepped {
+                step: Step::Folded(Pair { keep, remove }),
+                open: more,
+                live: left,
+            }
+        }
+        Tried::Refused => Stepped {
+            step: Step::Closed(Pair { keep, remove }),
+            open: entries,
+            live,
+        },
+    }
 }
 
 // Tries the pair of the entry that was taken off, in slot s: it is folded where that is allowed, and else closed.

@@ -4,11 +4,12 @@ use Prim.Native.Nat.{ℕ, _+_, _*_, _/_, _≤_}
 use native.Mathlib.Omega.{arith}
 use mathlib.Core.Path.{_≡_, refl, sym, ap}
 use mathlib.Core.List.{List, [], _∷_}
-use mathlib.Core.Bool.{Bool, true, false, _&&_}
+use mathlib.Core.Bool.{Bool, true, false}
 use lib.Dec.{leb}
 use borrow.Author.Tests.{leb-true}
 use lib.ListN.{length}
 use lib.Ieee.{Float, binary32, toBits}
+use Rattle.lists.proofs.TestLaws.{both-true}
 use Rattle.text.specs.Lines.{wordLine, linesTo}
 use Rattle.text.specs.Contracts.{Put}
 use Rattle.text.proofs.StoreLaws.{wider, both, whole}
@@ -44,13 +45,9 @@ mesh-stored unit folds v f points faces asked head points-put line faces-put =
 -- what a mesh that fits asks
 pub fits-bounds : (room v f : ℕ) → meshFits room v f ≡ true → (v ≤ 65536) × (f ≤ 131072) × (meshRoom v f ≤ room)
 fits-bounds room v f fits =
-    let points = and-true (leb v 65536) _ fits in
-    let faces = and-true (leb f 131072) _ (points .1) in
+    let points = both-true (leb v 65536) _ fits in
+    let faces = both-true (leb f 131072) _ (points .1) in
     (leb-true _ _ (points .0), leb-true _ _ (faces .0), leb-true _ _ (faces .1))
-  where
-    and-true : (a b : Bool) → (a && b) ≡ true → (a ≡ true) × (b ≡ true)
-    and-true true b e = (refl, e)
-    and-true false b e = (e, cc)
 
 -- ---- enough room
 

@@ -72,11 +72,11 @@ cond-three false true false n p q r = omega arith
 cond-three false false true n p q r = omega arith
 cond-three false false false n p q r = refl
 
--- what is 0 at either of two tests
-pub cond-either : (a b : Bool) (m : ℕ) → cond b 0 (cond a 0 m) ≡ cond (a || b) 0 m
-cond-either true true m = refl
-cond-either true false m = refl
-cond-either false b m = refl
+-- one value at either of two tests
+pub cond-either : (a b : Bool) (n m : ℕ) → cond b n (cond a n m) ≡ cond (a || b) n m
+cond-either true true n m = refl
+cond-either true false n m = refl
+cond-either false b n m = refl
 
 -- one of two things
 pub one-of-two : (a : ℕ) (t u : Bool) → (t && u) ≡ false → a + cond t 1 0 + cond u 1 0 ≡ a + cond (t || u) 1 0

@@ -11,7 +11,7 @@ use lib.Dec.{ltb, eqb}
 use lib.ListN.{length, getD}
 use borrow.Author.Tests.{lt-ltb, eq-eqb, ne-eqb}
 use Rattle.lists.specs.Lists.{sum, count, those, every, some, without}
-use Rattle.lists.proofs.TestLaws.{by-test, left-of, right-of, false-of, flag-le, flag-mono}
+use Rattle.lists.proofs.TestLaws.{by-test, false-of, flag-le, flag-mono}
 use Rattle.lists.proofs.SumLaws.{sum-those, sum-same, sum-mono, sum-zero, sum-length, sum-times, sum-without}
 
 -- one more element, as a test and as a count
@@ -28,11 +28,11 @@ module _ {A : Type 0} where
 
   pub every-head : (test : A → Bool) (x : A) (xs : List A) → every test (x ∷ xs) ≡ true → test x ≡ true
   unfolding every
-  every-head test x xs all = left-of (test x) (every test xs) all
+  every-head test x xs all = and-elim-left (test x) (every test xs) all
 
   pub every-tail : (test : A → Bool) (x : A) (xs : List A) → every test (x ∷ xs) ≡ true → every test xs ≡ true
   unfolding every
-  every-tail test x xs all = right-of (test x) (every test xs) all
+  every-tail test x xs all = and-elim-right (test x) (every test xs) all
 
   pub every-cons : (test : A → Bool) (x : A) (xs : List A) → test x ≡ true → every test xs ≡ true → every test (x ∷ xs) ≡ true
   unfolding every
@@ -224,7 +224,7 @@ module _ {A : Type 0} where
 
   pub count-those-le : (test passed : A → Bool) (xs : List A) → count test (those passed xs) ≤ count test xs
   count-those-le test passed xs =
-      rw (count-those test passed xs) (count-mono (λ x. passed x && test x) test (λ x h. right-of (passed x) (test x) h) xs)
+      rw (count-those test passed xs) (count-mono (λ x. passed x && test x) test (λ x h. and-elim-right (passed x) (test x) h) xs)
 
   pub count-none : (test : A → Bool) → ((x : A) → test x ≡ true → ⊥) → (xs : List A) → count test xs ≡ 0
   count-none test none xs = sum-same (λ x. cond (test x) 1 0) (λ x. 0) (λ x. rw (false-of (test x) (none x))) xs ∙ sum-zero xs

@@ -50,6 +50,10 @@ module _ {A : Type 0} where
   abbrev pub cleared : A → ℕ → List A → List A
   cleared a n old = replicate n a ++ drop n old
 
+  -- it is as long as before
+  pub length-cleared : (a : A) (n : ℕ) (old : List A) → n ≤ length old → length (cleared a n old) ≡ length old
+  length-cleared a n old fits = length-front old (replicate n a) n (length-replicate n a ∙ sym (length-take-le n old fits))
+
   -- one cell more is set
   pub clear-more : (a : A) (n : ℕ) (old w : List A) → n < length w → length w ≡ length old → w ≡ cleared a n old → set w n a ≡ cleared a (n + 1) old
   clear-more a n old w fits long e =

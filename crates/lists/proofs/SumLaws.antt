@@ -6,11 +6,12 @@ use native.Mathlib.Omega.{arith}
 use mathlib.Core.Path.{_≡_, refl, sym, ap₂, _∙_}
 use mathlib.Core.List.{List, [], _∷_, _++_, map, flatMap}
 use mathlib.Core.Bool.{Bool, true, false, cond, false≢true}
+use mathlib.Mathlib.Data.Bool.Basic.{and-elim-left, and-elim-right}
 use lib.Dec.{ltb}
 use lib.ListN.{length}
 use borrow.Author.Tests.{ltb-true, ltb-false}
 use Rattle.lists.specs.Lists.{sum, those, every, some, without}
-use Rattle.lists.proofs.TestLaws.{by-test, left-of, right-of}
+use Rattle.lists.proofs.TestLaws.{by-test}
 
 module _ {A : Type 0} where
   -- ---- how sums follow the list
@@ -88,7 +89,7 @@ module _ {A : Type 0} where
       → (xs : List A) → every test xs ≡ true → sum g xs ≤ sum h xs
   unfolding sum every
   sum-le test less [] all = zero-le
-  sum-le test less (x ∷ xs) all = add-le-add (less x (left-of (test x) (every test xs) all)) (sum-le test less xs (right-of (test x) (every test xs) all))
+  sum-le test less (x ∷ xs) all = add-le-add (less x (and-elim-left (test x) (every test xs) all)) (sum-le test less xs (and-elim-right (test x) (every test xs) all))
 
   -- a sum above 0 has one above 0, which passes what every one passes
   pub witness :
@@ -98,8 +99,8 @@ module _ {A : Type 0} where
   witness test g [] all h = absurd (not-suc-le-zero h)
   witness test g (x ∷ xs) all h =
       by-test (ltb 0 (g x))
-      (λ t. (x, left-of (test x) (every test xs) all, ltb-true _ _ t))
-      (λ t. witness test g xs (right-of (test x) (every test xs) all) (omega (arith, ltb-false 0 (g x) t)))
+      (λ t. (x, and-elim-left (test x) (every test xs) all, ltb-true _ _ t))
+      (λ t. witness test g xs (and-elim-right (test x) (every test xs) all) (omega (arith, ltb-false 0 (g x) t)))
 
 -- ---- from one list to another
 

@@ -3,7 +3,8 @@
 use Prim.Native.Nat.{ℕ, _+_, _≤_, _<_}
 use mathlib.Core.Path.{_≡_, refl, sym, _∙_}
 use mathlib.Core.Logic.{_≢_}
-use mathlib.Core.Bool.{Bool, true, false, not, _&&_, _||_, cond, true≢false, false≢true}
+use mathlib.Core.Bool.{Bool, true, false, not, _&&_, _||_, cond, true≢false, false≢true, and-true, and-false}
+use mathlib.Mathlib.Data.Bool.Basic.{and-elim-left, and-elim-right}
 use native.Mathlib.Omega.{arith}
 use lib.Dec.{eqb}
 use borrow.Author.Tests.{eqb-true, eq-eqb, not-true, ne-eqb, eqb-false}
@@ -19,13 +20,8 @@ pub clash : {P : Type 0} {b : Bool} → b ≡ true → b ≡ false → P
 clash t f = absurd (true≢false (sym t ∙ f))
 
 -- two tests joined, taken apart
-pub left-of : (b c : Bool) → (b && c) ≡ true → b ≡ true
-left-of true c h = refl
-left-of false c h = h
-
-pub right-of : (b c : Bool) → (b && c) ≡ true → c ≡ true
-right-of true c h = h
-right-of false c h = absurd (false≢true h)
+pub both-true : (b c : Bool) → (b && c) ≡ true → (b ≡ true) × (c ≡ true)
+both-true b c h = (and-elim-left b c h, and-elim-right b c h)
 
 pub either-of : {P : Type 0} (b c : Bool) → (b || c) ≡ true → (b ≡ true → P) → (c ≡ true → P) → P
 either-of true c h f g = f refl
@@ -82,7 +78,7 @@ pub differ : (x y : ℕ) → not (eqb x y) ≡ true → x ≡ y → ⊥
 differ x y h e = clash (eq-eqb x y e) (not-true _ h)
 
 pub ends : (x y m n : ℕ) → (eqb x m && eqb y n) ≡ true → (x ≡ m) × (y ≡ n)
-ends x y m n h = (eqb-true x m (left-of (eqb x m) (eqb y n) h), eqb-true y n (right-of (eqb x m) (eqb y n) h))
+ends x y m n h = (eqb-true x m (and-elim-left (eqb x m) (eqb y n) h), eqb-true y n (and-elim-right (eqb x m) (eqb y n) h))
 
 -- ---- by cases
 
@@ -115,15 +111,7 @@ not-two p x y apart =
 -- a number that is not above another is it with one added only where nothing is added
 pub still-equal : (a b : ℕ) (grew : Bool) → a ≤ b → eqb a (b + cond grew 1 0) ≡ (eqb a b && not grew)
 still-equal a b true h = ne-eqb a (b + 1) (λ e. omega arith) ∙ sym (and-false (eqb a b))
-  where
-    and-false : (x : Bool) → (x && false) ≡ false
-    and-false true = refl
-    and-false false = refl
 still-equal a b false h = rw add-zero (sym (and-true (eqb a b)))
-  where
-    and-true : (x : Bool) → (x && true) ≡ x
-    and-true true = refl
-    and-true false = refl
 
 -- ---- several tests
 

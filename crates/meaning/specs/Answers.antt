@@ -1,12 +1,12 @@
 -- The answer numbers 1 to 9 of document 01, in the order they are checked, each "given exactly when".
 use Prim.Native.Nat.{ℕ, suc, _+_, _*_, _/_, _%_}
 use mathlib.Core.List.{List, [], _∷_}
-use mathlib.Core.Bool.{Bool, true, false, not, _&&_, _||_}
+use mathlib.Core.Bool.{Bool, false, not, _&&_, _||_, cond}
 use lib.Dec.{ltb, eqb}
 use lib.ListN.{length}
-use lib.IntN.{pos}
-use lib.Ieee.{Float, fin, isNan, le, eq, neg}
+use lib.Ieee.{Float, isNan, le, eq, neg}
 use lib.Ieee.Scale.{finite}
+use Rattle.bits.specs.Cut.{zeroFloat, oneFloat}
 use Rattle.walk.specs.declared.Face.{Face}
 use Rattle.lists.specs.Lists.{some, firstOf}
 use Rattle.walk.specs.Faces.{facesOf}
@@ -16,14 +16,6 @@ use Rattle.meaning.specs.declared.Rooms.{Rooms}
 use Rattle.meaning.specs.declared.Verdict.{Verdict}
 use Rattle.meaning.specs.declared.Verdict.the-variants.{Refused, Copied, Admitted}
 use Rattle.meaning.specs.Input.{Input, pointsIn, facesIn}
-
--- 0.0
-abbrev pub zeroFloat : Float
-zeroFloat = fin false 0 (pos 0)
-
--- 1.0
-abbrev pub oneFloat : Float
-oneFloat = fin false 1 (pos 0)
 
 -- ---- the numbers, of the lists' lengths, of V and F, or of what stands in the lists
 
@@ -71,32 +63,27 @@ doubled f = eqb (f .a) (f .b) || eqb (f .b) (f .c) || eqb (f .c) (f .a)
 
 -- ---- the order
 
--- the first verdict where the test holds, else the second
-abbrev pub pick : Bool → Verdict → Verdict → Verdict
-pick true a b = a
-pick false a b = b
-
 -- 8 and 9: the lowest bad face counts, and within it 8 comes first. k is the number of the first face of the list.
 unfoldable pub faceVerdict : ℕ → ℕ → List Face → Verdict
 faceVerdict v k [] = Admitted
-faceVerdict v k (f ∷ fs) = pick (outside v f) (Refused 8 k) (pick (doubled f) (Refused 9 k) (faceVerdict v (suc k) fs))
+faceVerdict v k (f ∷ fs) = cond (outside v f) (Refused 8 k) (cond (doubled f) (Refused 9 k) (faceVerdict v (suc k) fs))
 
 -- 7 to 9, of the lists, the ratio and the bound: ratio 0.0 or -0.0 is answered after 7 and before 8, faces unchecked
 unfoldable pub contentsVerdict : List Float → List ℕ → Float → Float → Verdict
 unfolding faceVerdict some firstOf
 contentsVerdict points faces ratio bound =
-    pick (some (badCoordinate bound) points) (Refused 7 (firstOf (badCoordinate bound) points))
-    (pick (eq ratio zeroFloat) Copied
+    cond (some (badCoordinate bound) points) (Refused 7 (firstOf (badCoordinate bound) points))
+    (cond (eq ratio zeroFloat) Copied
     (faceVerdict (length points / 3) 0 (facesOf (length faces / 3) faces)))
 
 -- 1 to 9
 unfoldable pub verdictOf : Input → Verdict
 unfolding contentsVerdict
 verdictOf i =
-    pick (uneven (length (i .points)) (length (i .faces))) (Refused 1 0)
-    (pick (large (pointsIn i) (facesIn i)) (Refused 2 0)
-    (pick (short (pointsIn i) (facesIn i) (i .rooms)) (Refused 3 0)
-    (pick (empty (pointsIn i) (facesIn i)) (Refused 4 0)
-    (pick (badRatio (i .options .ratio)) (Refused 5 0)
-    (pick (badLimit (i .options .limit)) (Refused 6 0)
+    cond (uneven (length (i .points)) (length (i .faces))) (Refused 1 0)
+    (cond (large (pointsIn i) (facesIn i)) (Refused 2 0)
+    (cond (short (pointsIn i) (facesIn i) (i .rooms)) (Refused 3 0)
+    (cond (empty (pointsIn i) (facesIn i)) (Refused 4 0)
+    (cond (badRatio (i .options .ratio)) (Refused 5 0)
+    (cond (badLimit (i .options .limit)) (Refused 6 0)
     (contentsVerdict (i .points) (i .faces) (i .options .ratio) (i .bound)))))))

@@ -8,9 +8,9 @@ use Rattle.geometry.specs.declared.Point.{Point}
 use Rattle.geometry.specs.Points.{dot, norm, normal}
 use Rattle.geometry.specs.Constants.{nought}
 use Rattle.geometry.specs.Quadrics.{zeroQuadric}
+use Rattle.placement.specs.declared.Kind.the-variants.{Free}
 use Rattle.placement.specs.declared.Limit.{Limit}
 use Rattle.placement.specs.declared.pair.Vertex.{Vertex}
-use Rattle.placement.specs.Choices.{kindOf}
 use Rattle.placement.specs.Pairs.{pairQuadric, pairPlace, pairCost, eligible}
 use Rattle.walk.specs.Faces.{Rules}
 
@@ -49,5 +49,5 @@ rulesOf limit bound =
       eligible = eligible limit bound;
       merged = mergedVertex bound;
       fair = λ a b c a' b' c'. fairPoints (a .point) (b .point) (c .point) (a' .point) (b' .point) (c' .point);
-      blank = record { point = record { x = nought; y = nought; z = nought }; quadric = zeroQuadric; kind = kindOf 0 };
+      blank = record { point = record { x = nought; y = nought; z = nought }; quadric = zeroQuadric; kind = Free };
     }

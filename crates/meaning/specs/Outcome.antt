@@ -41,13 +41,9 @@ lastMesh i = walk (plainMachine (rulesIn i) (targetOf i)) (budget (facesIn i) (s
 unfoldable pub foldsWalked : Input → List Pair
 foldsWalked i = foldList (plainMachine (rulesIn i) (targetOf i)) (budget (facesIn i) (startOf i)) (startOf i)
 
--- how many they are
-abbrev pub foldsMade : Input → ℕ
-foldsMade i = length (foldsWalked i)
-
 -- no fold was made, and there are more faces than the target
 abbrev pub stuck : Input → Bool
-stuck i = eqb (foldsMade i) 0 && ltb (targetOf i) (facesIn i)
+stuck i = eqb (length (foldsWalked i)) 0 && ltb (targetOf i) (facesIn i)
 
 -- the border points of the input, where they are preserved
 abbrev pub bordersHeld : Input → ℕ
@@ -81,7 +77,7 @@ abbrev pub thinnedOutcome : Input → Outcome
 thinnedOutcome i =
     let faces = lastMesh i .faces in
     record {
-      answer = record { number = 0; place = 0; points = length (used [] faces); faces = length faces; folds = foldsMade i };
+      answer = record { number = 0; place = 0; points = length (used [] faces); faces = length faces; folds = length (foldsWalked i) };
       points = partsIn (rulesIn i) (lastMesh i) (used [] faces);
       faces = numbersOf (renumbered faces);
       worked = true;

@@ -11,7 +11,8 @@ use Rattle.placement.specs.declared.Limit.the-variants.{Unlimited, AtMost}
 use Rattle.meaning.specs.declared.Verdict.{Verdict}
 use Rattle.meaning.specs.declared.Verdict.the-variants.{Refused, Copied, Admitted}
 use Rattle.meaning.specs.Input.{Input}
-use Rattle.meaning.specs.Answers.{zeroFloat, oneFloat, faceVerdict, contentsVerdict, verdictOf}
+use Rattle.bits.specs.Cut.{zeroFloat, oneFloat}
+use Rattle.meaning.specs.Answers.{faceVerdict, contentsVerdict, verdictOf}
 
 -- 2.0
 abbrev two : Float

@@ -5,9 +5,9 @@ use mathlib.Core.Bool.{Bool, _&&_, cond}
 use lib.Ieee.{Float}
 use Rattle.geometry.specs.declared.Quadric.{Quadric}
 use Rattle.geometry.specs.Planes.{planeOf}
-use Rattle.geometry.specs.Quadrics.{zeroQuadric, ofPlane, sum}
+use Rattle.geometry.specs.Quadrics.{zeroQuadric, ofPlane, quadricSum}
+use Rattle.placement.specs.declared.Kind.the-variants.{Free, Border}
 use Rattle.placement.specs.declared.pair.Vertex.{Vertex}
-use Rattle.placement.specs.Choices.{kindOf}
 use Rattle.walk.specs.declared.Face.{Face}
 use Rattle.lists.specs.Lists.{below}
 use Rattle.walk.specs.Faces.{holds, facesOf, borderPoint, Mesh}
@@ -20,12 +20,12 @@ faceQuadric points f = ofPlane (planeOf (pointAt points (f .a)) (pointAt points 
 -- a point's quadric with those of the faces of a list that hold it added, in order
 unfoldable pub gathered : List Float → ℕ → Quadric → List Face → Quadric
 gathered points x q [] = q
-gathered points x q (f ∷ fs) = gathered points x (cond (holds x f) (sum q (faceQuadric points f)) q) fs
+gathered points x q (f ∷ fs) = gathered points x (cond (holds x f) (quadricSum q (faceQuadric points f)) q) fs
 
 -- all that the point x carries at the start. Border points are fixed where they are preserved.
 abbrev pub startVertex : List Float → List Face → ℕ → Bool → ℕ → Vertex
 startVertex points faces v preserve x =
-    record { point = pointAt points x; quadric = gathered points x zeroQuadric faces; kind = kindOf (cond (preserve && borderPoint v faces x) 1 0) }
+    record { point = pointAt points x; quadric = gathered points x zeroQuadric faces; kind = cond (preserve && borderPoint v faces x) Border Free }
 
 -- the mesh at the start, of v points and f faces
 unfoldable pub startMesh : ℕ → ℕ → List Float → List ℕ → Bool → Mesh Vertex

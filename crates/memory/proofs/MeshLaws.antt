@@ -2,12 +2,14 @@
 -- Assumes nothing.
 use Prim.Native.Nat.{ℕ, _+_, _*_, _≤_, _<_}
 use native.Mathlib.Omega.{arith}
-use mathlib.Core.Path.{_≡_}
+use mathlib.Core.Path.{_≡_, refl}
 use mathlib.Core.List.{List, map}
+use mathlib.Core.Bool.{Bool, true, false, cond}
 use lib.Ieee.{Float}
 use lib.ListN.{length, getD, set}
 use Rattle.geometry.specs.declared.Point.{Point}
 use Rattle.geometry.specs.declared.Quadric.{Quadric}
+use Rattle.placement.specs.declared.Kind.the-variants.{Free, Border}
 use Rattle.placement.specs.declared.pair.Vertex.{Vertex}
 use Rattle.placement.specs.Choices.{kindOf}
 use Rattle.walk.specs.declared.Face.{Face}
@@ -17,9 +19,14 @@ use Rattle.walk.specs.Faces.{faceAt, Mesh}
 use Rattle.memory.specs.Memory.{kind, lives, liveFaces}
 use Rattle.memory.specs.Layout.{kindsFrom, marksFrom}
 use Rattle.memory.specs.Points.{vertexAt, withPoint, withQuadric, meshOf}
-use Rattle.memory.proofs.PointLaws.{point-stored, point-other, quadric-stored, quadric-other}
+use Rattle.memory.proofs.PointLaws.{point-stored, quadric-stored}
 use Rattle.lists.proofs.BelowLaws.{length-each, getD-each, each-same, each-moved, kept-same}
 use Rattle.memory.proofs.FrameLaws.{lives-but, face-but}
+
+-- 1 stands for a border point, 0 for a free one
+pub kind-of-number : (border : Bool) → kindOf (cond border 1 0) ≡ cond border Border Free
+kind-of-number true = refl
+kind-of-number false = refl
 
 -- two meshes with the same points and the same faces
 pub mesh-of-parts : (points points' : List Vertex) (faces faces' : List Face) → points ≡ points' → faces ≡ faces' →
@@ -42,9 +49,11 @@ module _ (v f : ℕ) (w : List ℕ) (p q : List Float) where
       map (vertexAt v f w (withPoint p keep a) (withQuadric q keep b)) (below v)
       ≡ set (map (vertexAt v f w p q) (below v)) keep (record { point = a; quadric = b; kind = kindOf (kind v f w keep) })
   mesh-moved keep a b here p-long q-long =
+      let at-p = point-stored p keep a in
+      let at-q = quadric-stored q keep b in
       let moved = vertexAt v f w (withPoint p keep a) (withQuadric q keep b) in
-      rw (point-stored p keep a (omega arith), quadric-stored q keep b (omega arith)) at
-      (each-moved (vertexAt v f w p q) moved v keep here (λ x other. rw (point-other p keep a x other, quadric-other q keep b x other)))
+      rw (at-p .back (omega arith), at-q .back (omega arith)) at
+      (each-moved (vertexAt v f w p q) moved v keep here (λ x other. rw (at-p .other x other, at-q .other x other)))
 
 -- the mesh hangs on the u32 memory only through the kinds of the v points and the live faces
 pub mesh-same : (v f : ℕ) (w w' : List ℕ) (p q : List Float) →
@@ -53,7 +62,11 @@ unfolding meshOf
 mesh-same v f w w' p q kinds faces =
     mesh-of-parts _ _ _ _ (each-same (vertexAt v f w p q) (vertexAt v f w' p q) v (λ x h. rw (kinds x h))) faces
 
--- and those on the cells below the marks
+-- and those on the cells below the marks; so does what a point carries, on its kind
+pub vertex-but : (v f : ℕ) {lo hi : ℕ} {w w' : List ℕ} (p q : List Float) → But lo hi w w' → marksFrom v f ≤ lo → (x : ℕ) → x < v →
+    vertexAt v f w' p q x ≡ vertexAt v f w p q x
+vertex-but v f {lo} {hi} {w} {w'} p q but above x l = rw (but .under (kindsFrom v f + x) (omega arith))
+
 pub mesh-but : (v f : ℕ) {lo hi : ℕ} {w w' : List ℕ} (p q : List Float) → But lo hi w w' → marksFrom v f ≤ lo → meshOf v f w' p q ≡ meshOf v f w p q
 unfolding liveFaces
 mesh-but v f {lo} {hi} {w} {w'} p q but above =

@@ -1,7 +1,9 @@
 // What each point carries, in lent memory: its place, its quadric and its kind.
 ghost use mathlib.Core.Path.{_≡_};
 ghost use Prim.Native.Nat.{_+_, _*_, _<_};
+ghost use mathlib.Core.List.{[], _∷_};
 ghost use lib.ListN.{length};
+ghost use lib.Seq.{sets};
 ghost use Rattle.meaning.specs.Input.{pointAt};
 ghost use Rattle.memory.specs.Points.{quadricAt, vertexAt, withPoint, withQuadric};
 ghost use Rattle.memory.specs.Layout.{kindsFrom};
@@ -63,20 +65,32 @@ pub fn set_point(p: &mut [f32], x: usize, at: Point)
     p[3 * x + 2] = at.z;
 }
 
+// Puts five values into the cells from one on.
+fn set_five(q: &mut [f64], at: usize, a: f64, b: f64, c: f64, d: f64, e: f64)
+    requires { ⌜ at + 4 < length (now q) ⌝ }
+    ensures { λ _. ⌜ now (q .exit) ≡ sets (now (q .entry)) at (a ∷ b ∷ c ∷ d ∷ e ∷ []) ⌝ }
+{
+    q[at] = a;
+    q[at + 1] = b;
+    q[at + 2] = c;
+    q[at + 3] = d;
+    q[at + 4] = e;
+}
+
 // Puts a quadric at its point.
 pub fn set_quadric(q: &mut [f64], x: usize, value: Quadric)
     requires { ⌜ 10 * x + 9 < length (now q) ⌝ }
     ensures { λ _. ⌜ now (q .exit) ≡ withQuadric (now (q .entry)) x value ⌝ }
 {
     let at = 10 * x;
-    q[at] = value.m11;
-    q[at + 1] = value.m12;
-    q[at + 2] = value.m13;
-    q[at + 3] = value.m14;
-    q[at + 4] = value.m22;
-    q[at + 5] = value.m23;
-    q[at + 6] = value.m24;
-    q[at + 7] = value.m33;
-    q[at + 8] = value.m34;
-    q[at + 9] = value.m44;
+    set_five(q, at, value.m11, value.m12, value.m13, value.m14, value.m22);
+    set_five(
+        q,
+        at + 5,
+        value.m23,
+        value.m24,
+        value.m33,
+        value.m34,
+        value.m44,
+    );
 }

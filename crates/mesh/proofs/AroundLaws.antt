@@ -2,23 +2,24 @@
 -- Assumes nothing.
 use Prim.Native.Nat.{ℕ, _+_, _*_, _≤_, _<_}
 use native.Mathlib.Omega.{arith}
-use mathlib.Core.Path.{_≡_, sym, ap, _∙_}
+use mathlib.Core.Path.{_≡_, sym, ap, _∙_, refl}
 use mathlib.Core.List.{List}
-use mathlib.Core.Bool.{Bool, _&&_, cond}
+use mathlib.Core.Bool.{Bool, _&&_, cond, true}
 use lib.Dec.{ltb}
-use lib.ListN.{getD}
+use lib.ListN.{getD, length}
 use borrow.Author.Tests.{lt-ltb}
 use Rattle.walk.specs.declared.Face.{Face}
-use Rattle.lists.specs.Lists.{sum, those, below, stretch}
-use Rattle.walk.specs.Faces.{holds, faceAt}
-use Rattle.memory.specs.Memory.{lives, liveFaces, liveAt}
+use Rattle.lists.specs.Lists.{sum, those, below, stretch, every}
+use Rattle.walk.specs.Faces.{holds, faceAt, proper}
+use Rattle.memory.specs.Memory.{lives, liveFaces, liveAt, Proper}
 use Rattle.lists.specs.Frames.{But}
 use Rattle.mesh.specs.Contracts.Around.{Gathered}
 use Rattle.lists.proofs.CondLaws.{cond-and, cond-self}
-use Rattle.lists.proofs.SumLaws.{sum-map, sum-those}
+use Rattle.lists.proofs.SumLaws.{sum-map, sum-those, sum-length}
 use Rattle.lists.proofs.BelowLaws.{sum-same-below, sum-none, sum-ones, count-below-most, kept-same, map-same-below}
 use Rattle.lists.proofs.EveryLaws.{every-counted}
 use Rattle.memory.proofs.FrameLaws.{lives-but, face-but, live-at-but}
+use Rattle.lists.proofs.TestLaws.{by-outcome}
 
 -- a change above the flags leaves the live faces
 pub live-faces-but : (f : ℕ) {lo hi : ℕ} {w w' : List ℕ} → But lo hi w w' → 4 * f ≤ lo → liveFaces f w' ≡ liveFaces f w
@@ -30,6 +31,18 @@ live-faces-but f {lo} {hi} {w} {w'} but above =
 pub live-sums : (f : ℕ) (w : List ℕ) (g : Face → ℕ) → sum g (liveFaces f w) ≡ sum (λ k. cond (lives f w k) (g (faceAt w k)) 0) (below f)
 unfolding liveFaces
 live-sums f w g = sum-map g (faceAt w) (those (lives f w) (below f)) ∙ sum-those (λ k. g (faceAt w k)) (lives f w) (below f)
+
+-- there are at most f of them
+pub live-few : (f : ℕ) (w : List ℕ) → length (liveFaces f w) ≤ f
+live-few f w = omega (arith, sum-length (liveFaces f w), live-sums f w (λ x. 1), count-below-most (lives f w) f)
+
+-- and each has three distinct points below v
+pub live-proper : (v f : ℕ) (w : List ℕ) → Proper v f w → every (proper v) (liveFaces f w) ≡ true
+live-proper v f w good =
+    every-counted (proper v) (liveFaces f w)
+    (live-sums f w (λ x. cond (proper v x) 0 1)
+    ∙ sum-none _ f (λ k l. by-outcome (λ (b : Bool). b ≡ lives f w k → _≡_ {A = ℕ} (cond b (cond (proper v (faceAt w k)) 0 1) 0) 0) (lives f w k)
+    (λ e s. rw (good k l e)) (λ e s. refl) refl))
 
 -- ---- a list of slots
 

@@ -6,41 +6,20 @@ use mathlib.Core.Path.{_≡_, refl, _∙_}
 use mathlib.Core.Logic.{_≢_}
 use mathlib.Core.List.{List}
 use mathlib.Core.Bool.{true, _&&_, cond}
-use mathlib.Mathlib.Data.Bool.Basic.{and-elim-left, and-elim-right}
 use lib.Dec.{eqb}
-use borrow.Author.Tests.{eqb-true, eqb-false, ltb-true}
+use borrow.Author.Tests.{eqb-true, eqb-false}
 use Rattle.walk.specs.declared.Face.{Face}
 use Rattle.lists.specs.Lists.{sum, below}
 use Rattle.walk.specs.Faces.{holds, proper, faceAt}
 use Rattle.memory.specs.Memory.{corner, lives, Proper, liveAt}
-use Rattle.lists.proofs.TestLaws.{by-outcome, eqb-sym, not-two, differ}
-use Rattle.lists.proofs.CondLaws.{cond-three}
+use Rattle.lists.proofs.TestLaws.{by-outcome, eqb-sym}
+use Rattle.walk.proofs.FaceLaws.{Corners, corners, held-once}
 use Rattle.lists.proofs.BelowLaws.{sum-same-below, sum-threes}
-
--- what a proper face is, said of its points
-pub record Points (v : ℕ) (p : Face) : Type 0 where
-  pub a-below : p .a < v
-  pub b-below : p .b < v
-  pub c-below : p .c < v
-  pub a-b : p .a ≢ p .b
-  pub b-c : p .b ≢ p .c
-  pub c-a : p .c ≢ p .a
-
--- six tests that pass together, one by one
-pub points : (v : ℕ) (p : Face) → proper v p ≡ true → Points v p
-points v p h = record {
-  a-below = ltb-true (p .a) v (search (and-elim-left, and-elim-right));
-  b-below = ltb-true (p .b) v (search (and-elim-left, and-elim-right));
-  c-below = ltb-true (p .c) v (search (and-elim-left, and-elim-right));
-  a-b = differ (p .a) (p .b) (search (and-elim-left, and-elim-right));
-  b-c = differ (p .b) (p .c) (search (and-elim-left, and-elim-right));
-  c-a = differ (p .c) (p .a) (search (and-elim-left, and-elim-right));
-}
 
 -- the point of a corner of a proper face
 pub corner-below : (v : ℕ) (w : List ℕ) (c : ℕ) → proper v (faceAt w (c / 3)) ≡ true → corner w c < v
 corner-below v w c h =
-    let p : Points v (faceAt w (c / 3)) = points v (faceAt w (c / 3)) h in
+    let p : Corners v (faceAt w (c / 3)) = corners v (faceAt w (c / 3)) h in
     by-outcome (λ b. corner w c < v) (eqb c (3 * (c / 3)))
     (λ a. rw (eqb-true c (3 * (c / 3)) a) (p .a-below))
     (λ a.
@@ -55,11 +34,7 @@ corner-below v w c h =
 -- a weight at each corner that is at x is the weight of the face, if it holds x
 one-corner : (v : ℕ) (p : Face) (x n : ℕ) → proper v p ≡ true →
     cond (eqb (p .a) x) n 0 + cond (eqb (p .b) x) n 0 + cond (eqb (p .c) x) n 0 ≡ cond (holds x p) n 0
-one-corner v p x n h =
-    let q : Points v p = points v p h in
-    rw (eqb-sym (p .a) x, eqb-sym (p .b) x, eqb-sym (p .c) x)
-    (cond-three (eqb x (p .a)) (eqb x (p .b)) (eqb x (p .c)) n
-    (not-two x (p .a) (p .b) (q .a-b)) (not-two x (p .b) (p .c) (q .b-c)) (not-two x (p .c) (p .a) (q .c-a)))
+one-corner v p x n h = rw (eqb-sym (p .a) x, eqb-sym (p .b) x, eqb-sym (p .c) x) (held-once v p x n h)
 
 -- a weight summed over the corners of live faces that are at x, and over the live faces that hold x
 pub corners-faces : (v f : ℕ) (w : List ℕ) → Proper v f w → (x : ℕ) (g : ℕ → ℕ) →

@@ -6,7 +6,7 @@ use mathlib.Core.List.{List, [], _∷_, _++_}
 use mathlib.Core.Bool.{true, cond}
 use lib.Ieee.{Float}
 use Rattle.geometry.specs.declared.Quadric.{Quadric}
-use Rattle.geometry.specs.Quadrics.{sum}
+use Rattle.geometry.specs.Quadrics.{quadricSum}
 use Rattle.walk.specs.declared.Face.{Face}
 use Rattle.lists.specs.Lists.{every}
 use Rattle.walk.specs.Faces.{holds, proper}
@@ -17,7 +17,7 @@ use Rattle.meaning.specs.Start.{faceQuadric, gathered}
 
 -- a point's quadric after a face
 abbrev pub withHeld : List Float → ℕ → Quadric → Face → Quadric
-withHeld points x q f = cond (holds x f) (sum q (faceQuadric points f)) q
+withHeld points x q f = cond (holds x f) (quadricSum q (faceQuadric points f)) q
 
 -- one face more is added last
 pub gathered-next : (points : List Float) (x : ℕ) (q : Quadric) (fs : List Face) (f : Face) →
@@ -36,5 +36,5 @@ module _ (points points' : List Float) (v : ℕ) (same : (x : ℕ) → x < v →
   unfolding gathered
   gathered-same x q [] all = refl
   gathered-same x q (f ∷ fs) all =
-      ap (λ (r : Quadric). gathered points' x (cond (holds x f) (sum q r) q) fs) (face-quadric-same f (every-head (proper v) f fs all))
+      ap (λ (r : Quadric). gathered points' x (cond (holds x f) (quadricSum q r) q) fs) (face-quadric-same f (every-head (proper v) f fs all))
       ∙ gathered-same x (withHeld points x q f) fs (every-tail (proper v) f fs all)

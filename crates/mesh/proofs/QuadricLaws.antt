@@ -13,7 +13,7 @@ use lib.Seq.{length-take-le, length-front, getD-take, drop-at, drop-drop, take-l
 use borrow.Author.Count.{below-none, below-more}
 use borrow.Author.Tests.{eqb-true, eqb-false, ne-eqb}
 use Rattle.geometry.specs.declared.Quadric.{Quadric}
-use Rattle.geometry.specs.Quadrics.{zeroQuadric, sum}
+use Rattle.geometry.specs.Quadrics.{zeroQuadric, quadricSum}
 use Rattle.walk.specs.declared.Face.{Face}
 use Rattle.lists.specs.Lists.{below, overlaid}
 use Rattle.walk.specs.Faces.{holds, proper, faceAt}
@@ -23,7 +23,7 @@ use Rattle.meaning.specs.Input.{pointAt}
 use Rattle.memory.specs.Points.{quadricAt, withQuadric, withPoints}
 use Rattle.meaning.specs.Start.{faceQuadric, gathered}
 use Rattle.mesh.specs.Contracts.Quadrics.{withSum, withFace, QuadricsAre}
-use Rattle.memory.proofs.PointLaws.{point-same, quadric-stored, quadric-other, quadric-length, quadric-rest}
+use Rattle.memory.proofs.PointLaws.{point-same, quadric-stored}
 use Rattle.mesh.proofs.GatheredLaws.{gathered-next}
 
 -- ---- points
@@ -58,15 +58,16 @@ quadrics-none said q = record { at = below-none (λ x. quadricAt q x ≡ said x)
 pub quadrics-more : {x : ℕ} {said : ℕ → Quadric} {q₀ q : List Float} → 10 * x + 9 < length q →
     QuadricsAre x said q₀ q → QuadricsAre (x + 1) said q₀ (withQuadric q x (said x))
 quadrics-more {x} {said} {q₀} {q} fits h =
+    let now = quadric-stored q x (said x) in
     let more : 10 * (x + 1) ≡ 10 * x + 10 = omega arith in
     record {
       at =
           below-more (λ y. quadricAt (withQuadric q x (said x)) y ≡ said y) x
-          (λ y l. quadric-other q x (said x) y (omega arith) ∙ h .at y l)
-          (quadric-stored q x (said x) fits);
-      same-length = quadric-length q x (said x) ∙ h .same-length;
+          (λ y l. now .other y (omega arith) ∙ h .at y l)
+          (now .back (omega arith));
+      same-length = now .same-length ∙ h .same-length;
       rest =
-          quadric-rest q x (said x) (x + 1) (omega arith)
+          now .rest (x + 1) (omega arith)
           ∙ rw more (sym (drop-drop 10 (10 * x) q) ∙ ap (drop 10) (h .rest) ∙ drop-drop 10 (10 * x) q₀);
     }
 
@@ -90,7 +91,7 @@ once v x f h step r =
 
 -- the step here: the face's quadric is added
 abbrev plus : Quadric → Quadric → Quadric
-plus b r = sum r b
+plus b r = quadricSum r b
 
 module _ {v : ℕ} {q₀ : List Float} (b : Quadric) where
   -- to one point
@@ -99,12 +100,13 @@ module _ {v : ℕ} {q₀ : List Float} (b : Quadric) where
   unfolding withSum
   quadrics-sum {said} {q} x here long h =
       let value = plus b (quadricAt q x) in
+      let now = quadric-stored q x value in
       record {
         at = λ y l. by-test (eqb y x)
-            (λ e. rw (e, eqb-true y x e) (quadric-stored q x value (omega arith) ∙ ap (plus b) (h .at x here)))
-            (λ e. rw e (quadric-other q x value y (eqb-false y x e) ∙ h .at y l));
-        same-length = quadric-length q x value ∙ h .same-length;
-        rest = quadric-rest q x value v here ∙ h .rest;
+            (λ e. rw (e, eqb-true y x e) (now .back (omega arith) ∙ ap (plus b) (h .at x here)))
+            (λ e. rw e (now .other y (eqb-false y x e) ∙ h .at y l));
+        same-length = now .same-length ∙ h .same-length;
+        rest = now .rest v here ∙ h .rest;
       }
 
   -- to the three points of a face

@@ -18,7 +18,7 @@ use Rattle.meaning.specs.Input.{pointAt}
 use Rattle.memory.specs.Points.{quadricAt, withPoints, vertexAt, meshOf}
 use Rattle.meaning.specs.Start.{gathered, startVertex, startMesh}
 use Rattle.mesh.specs.Contracts.Quadrics.{QuadricsAre}
-use Rattle.memory.proofs.MeshLaws.{mesh-of-parts}
+use Rattle.memory.proofs.MeshLaws.{kind-of-number, mesh-of-parts}
 use Rattle.mesh.proofs.GatheredLaws.{gathered-same}
 use Rattle.mesh.proofs.QuadricLaws.{points-laid}
 use Rattle.memory.specs.Layout.{livesFrom}
@@ -87,7 +87,7 @@ module _ (v f : ℕ) (points : List Float) (faces : List ℕ) (preserve : Bool) 
       let quadric : (x : ℕ) → x < v → quadricAt q x ≡ gathered points x zeroQuadric faces-of =
       λ x h. quadrics x h ∙ gathered-same points p v places x zeroQuadric faces-of all-proper in
       mesh-of-parts _ _ _ _
-      (each-same (startVertex points faces-of v preserve) (vertexAt v f w p q) v (λ x h. rw (places x h, quadric x h, kinds x h))) same
+      (each-same (startVertex points faces-of v preserve) (vertexAt v f w p q) v (λ x h. rw (places x h, quadric x h, kinds x h, kind-of-number))) same
 
   -- the same, as the contracts of laying hand it over. The quadrics may be laid before the kinds or after them, from w'.
   pub mesh-laid : {n : ℕ} {w₀ w₁ w : List ℕ} {p q₀ q : List Float} (w' : List ℕ) (p₀ : List Float) →

@@ -24,13 +24,13 @@ use Rattle.meaning.specs.Arithmetic.{rulesOf}
 use Rattle.openpairs.specs.State.{openPairs}
 use Rattle.openpairs.specs.Contracts.Changes.{Added}
 use Rattle.openpairs.proofs.OpenLaws.{open-same}
-use Rattle.openpairs.proofs.MeshLaws.{mesh-points, mesh-data}
 use Rattle.ring.specs.Contracts.Listing.{isAround, AroundListed}
 use Rattle.ring.proofs.ListedLaws.{listed-few, listed-within}
 use Rattle.openpairs.specs.Contracts.Edges.{risingFrom, openedAround}
-use Rattle.openpairs.specs.Contracts.Waiting.{fits, waiting, Ready}
+use Rattle.openpairs.specs.Contracts.Waiting.{fits, waiting, PairsReady}
 use Rattle.openpairs.proofs.WaitLaws.{waits, waiting-sum, fits-but}
 use Rattle.memory.specs.Layout.{keepsFrom, removesFrom}
+use Rattle.memory.proofs.MeshLaws.{mesh-length, mesh-point}
 
 -- the definition, as a sum over the points
 pub around-sum : {D : Type 0} (rules : Rules D) (m : Mesh D) (rising : Bool) (x : ℕ) (g : Pair → ℕ) →
@@ -45,7 +45,7 @@ pub fits-mesh : (v f : ℕ) (w : List ℕ) (p q : List Float) (limit : Limit) (b
     fits v f w p q limit bound x y ≡ eligiblePair (rulesOf limit bound) (meshOf v f w p q) (pairOf x y)
 unfolding fits rulesOf
 fits-mesh v f w p q limit bound x y x-in y-in =
-    rw (mesh-data v f w p q (rulesOf limit bound) x x-in, mesh-data v f w p q (rulesOf limit bound) y y-in)
+    rw (mesh-point v f w p q x (rulesOf limit bound .blank) x-in, mesh-point v f w p q y (rulesOf limit bound .blank) y-in)
 
 module _ {v f : ℕ} {w w₁ : List ℕ} {rising : Bool} {x count : ℕ} (done : AroundListed v f w rising x w₁ count) (x-in : x < v)
     (p q : List Float) (limit : Limit) (bound : Float) where
@@ -67,12 +67,12 @@ module _ {v f : ℕ} {w w₁ : List ℕ} {rising : Bool} {x count : ℕ} (done :
       ∙ done .sums (waits v f w₁ p q limit bound x g)
       ∙ sum-those (waits v f w₁ p q limit bound x g) test (below v)
       ∙ sum-same-below _ opens v same
-      ∙ ap (λ (n : ℕ). sum opens (below n)) (sym (mesh-points v f w p q))
+      ∙ ap (λ (n : ℕ). sum opens (below n)) (sym (mesh-length v f w p q))
       ∙ sym (around-sum rules m rising x g)
 
   -- there is a place for each of them
   pub listed-ready : {n : ℕ} → Tidy v f w → 3 * v ≤ length p → 10 * v ≤ length q →
-      n + length (openedAround (rulesOf limit bound) (meshOf v f w p q) rising x) ≤ 3 * f → Ready v f w₁ p q limit bound x count n
+      n + length (openedAround (rulesOf limit bound) (meshOf v f w p q) rising x) ≤ 3 * f → PairsReady v f w₁ p q limit bound x count n
   listed-ready tidy points-long quadrics-long enough =
       record {
         room = record {

@@ -21,7 +21,7 @@ use Rattle.openpairs.specs.declared.pairs.Ranked.{Ranked}
 use Rattle.memory.specs.Entries.{pairAt}
 use Rattle.openpairs.specs.Contracts.Ranks.{keyAt, placeAt, rankedAt, rank}
 use Rattle.openpairs.specs.Contracts.Changes.{Named, LeastAt}
-use Rattle.openpairs.proofs.MeshLaws.{mesh-data}
+use Rattle.memory.proofs.MeshLaws.{mesh-point}
 
 module _ (v f : ℕ) (w : List ℕ) (p q : List Float) (bound : Float) (i : ℕ) where
   -- what is read of the pair in a place, part by part
@@ -38,7 +38,7 @@ module _ (v f : ℕ) (w : List ℕ) (p q : List Float) (bound : Float) (i : ℕ)
       order (rulesOf limit bound) (meshOf v f w p q) (pairAt v f w i) ≡ rank (rankedAt v f w p q bound i)
   unfolding order rulesOf rank rankedAt
   order-rank limit k r =
-      rw (mesh-data v f w p q (rulesOf limit bound) (pairAt v f w i .keep) k, mesh-data v f w p q (rulesOf limit bound) (pairAt v f w i .remove) r)
+      rw (mesh-point v f w p q (pairAt v f w i .keep) (rulesOf limit bound .blank) k, mesh-point v f w p q (pairAt v f w i .remove) (rulesOf limit bound .blank) r)
 
 -- the least of the first i pairs
 pub record Leading (v f : ℕ) (w : List ℕ) (p q : List Float) (bound : Float) (r : Ranked) (i : ℕ) : Type 0 where

@@ -2,7 +2,6 @@
 pub mod OpenLaws
 pub mod DropLaws
 pub mod RankLaws
-pub mod MeshLaws
 pub mod LeastLaws
 pub mod WaitLaws
 pub mod AddLaws

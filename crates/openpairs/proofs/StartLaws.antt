@@ -6,11 +6,9 @@ use native.Mathlib.Numerals.{add-one}
 use native.Mathlib.Omega.{arith}
 use mathlib.Core.Path.{_≡_, sym, ap, ap₂, _∙_}
 use mathlib.Core.List.{List}
-use mathlib.Core.Bool.{true, cond}
-use lib.Dec.{ltb}
-use lib.ListN.{length, length-map}
+use mathlib.Core.Bool.{true}
+use lib.ListN.{length}
 use lib.Ieee.{Float}
-use borrow.Author.Tests.{ltb-true, lt-ltb}
 use Rattle.placement.specs.declared.Limit.{Limit}
 use Rattle.placement.specs.declared.pair.Vertex.{Vertex}
 use Rattle.walk.specs.declared.Pair.{Pair}
@@ -18,14 +16,11 @@ use Rattle.lists.specs.Lists.{sum, every, below}
 use Rattle.walk.specs.Faces.{proper, Rules, Mesh}
 use Rattle.walk.specs.Pairs.{pairOf}
 use Rattle.walk.specs.Walk.{started}
-use Rattle.lists.proofs.TestLaws.{flag-le}
-use Rattle.lists.proofs.SumLaws.{sum-map, sum-those, sum-same, sum-mono, sum-length}
-use Rattle.lists.proofs.BelowLaws.{sum-below, length-below, getD-below, sum-partial}
-use Rattle.lists.proofs.EveryLaws.{every-from, length-those, every-map, every-those}
+use Rattle.lists.proofs.SumLaws.{sum-map, sum-those, sum-same, sum-length}
+use Rattle.lists.proofs.BelowLaws.{sum-below, sum-partial}
 use Rattle.walk.proofs.OpenSums.{started-sum}
 use Rattle.walk.proofs.SoundLaws.{started-sound}
 use Rattle.walk.proofs.StepLaws.{open-bound}
-use Rattle.memory.specs.Memory.{lives, liveFaces, Proper}
 use Rattle.lists.specs.Frames.{But}
 use Rattle.mesh.specs.Contracts.Chains.{Tidy}
 use Rattle.memory.specs.Points.{meshOf}
@@ -33,28 +28,11 @@ use Rattle.meaning.specs.Arithmetic.{rulesOf}
 use Rattle.openpairs.specs.State.{openPairs}
 use Rattle.openpairs.specs.Contracts.Changes.{Added}
 use Rattle.openpairs.proofs.OpenLaws.{open-none, open-length}
-use Rattle.openpairs.proofs.MeshLaws.{mesh-points}
 use Rattle.openpairs.specs.Contracts.Edges.{risingFrom}
 use Rattle.lists.proofs.FrameLaws.{but-refl, but-then}
-use Rattle.memory.proofs.MeshLaws.{mesh-but}
+use Rattle.memory.proofs.MeshLaws.{mesh-but, mesh-length}
 use Rattle.memory.specs.Layout.{keepsFrom, orderFrom}
-
--- ---- the mesh in memory
-
--- as many live faces as there are slots, or fewer
-pub faces-few : (f : ℕ) (w : List ℕ) → length (liveFaces f w) ≤ f
-unfolding liveFaces
-faces-few f w =
-    rw (length-map, length-those)
-    (omega (arith, sum-mono (λ k. cond (lives f w k) 1 0) (λ k. 1) (λ k. flag-le (lives f w k)) (below f), sum-length (below f), length-below f))
-
--- each of them is proper
-pub faces-proper : (v f : ℕ) (w : List ℕ) → Proper v f w → every (proper v) (liveFaces f w) ≡ true
-unfolding liveFaces
-faces-proper v f w good =
-    rw every-map
-    (every-those (λ k. ltb k f) (lives f w) (λ k inside live. good k (ltb-true k f inside) live) (below f)
-    (every-from (λ k. ltb k f) 0 (below f) (λ i l. let inside : i < f = rw length-below at l in rw (getD-below f i inside) (lt-ltb i f inside))))
+use Rattle.mesh.proofs.AroundLaws.{live-few, live-proper}
 
 -- the start opens at most three pairs for each slot
 pub started-few : {v f : ℕ} {w : List ℕ} → Tidy v f w → (p q : List Float) (rules : Rules Vertex) →
@@ -62,8 +40,8 @@ pub started-few : {v f : ℕ} {w : List ℕ} → Tidy v f w → (p q : List Floa
 unfolding started meshOf
 started-few {v} {f} {w} tidy p q rules =
     let m = meshOf v f w p q in
-    let good : every (proper (length (m .points))) (m .faces) ≡ true = rw (mesh-points v f w p q) (faces-proper v f w (tidy .faces-proper)) in
-    omega (arith, open-bound (started rules m) (started-sound rules m good), faces-few f w)
+    let good : every (proper (length (m .points))) (m .faces) ≡ true = rw (mesh-length v f w p q) (live-proper v f w (tidy .faces-proper)) in
+    omega (arith, open-bound (started rules m) (started-sound rules m good), live-few f w)
 
 -- ---- point after point
 
@@ -98,7 +76,7 @@ module _ {v f : ℕ} {w₀ : List ℕ} {p q : List Float} {limit : Limit} {bound
         let each : ℕ → ℕ = λ y. sum (λ r. 1) (risingFrom rules m y) in
         let now-open : n ≡ sum each (below x) = sym (open-length v f w n) ∙ sym (sum-length (openPairs v f w n)) ∙ before .sums (λ r. 1) in
         let all-open : sum each (below v) ≡ sum (λ r. 1) (started rules m .«open») =
-        ap (λ (k : ℕ). sum each (below k)) (sym (mesh-points v f w₀ p q)) ∙ rising-sum rules m (λ r. 1) in
+        ap (λ (k : ℕ). sum each (below k)) (sym (mesh-length v f w₀ p q)) ∙ rising-sum rules m (λ r. 1) in
         rw same-rising
         (omega (
           arith,
@@ -131,7 +109,7 @@ module _ {v f : ℕ} {w₀ : List ℕ} {p q : List Float} {limit : Limit} {bound
         but = end .but;
         sums = λ g.
             end .sums g
-            ∙ ap (λ (k : ℕ). sum (λ y. sum g (risingFrom (rulesOf limit bound) (meshOf v f w₀ p q) y)) (below k)) (e ∙ sym (mesh-points v f w₀ p q))
+            ∙ ap (λ (k : ℕ). sum (λ y. sum g (risingFrom (rulesOf limit bound) (meshOf v f w₀ p q) y)) (below k)) (e ∙ sym (mesh-length v f w₀ p q))
             ∙ rising-sum (rulesOf limit bound) (meshOf v f w₀ p q) g
             ∙ rw (open-none v f w₀) (sym (zero-add _));
       }

@@ -22,7 +22,7 @@ use Rattle.mesh.proofs.AroundLaws.{sum-slots}
 use Rattle.openpairs.specs.State.{openPairs}
 use Rattle.openpairs.specs.Contracts.Changes.{Added}
 use Rattle.openpairs.proofs.OpenLaws.{open-length, pushed, pushed-but, pushed-sum}
-use Rattle.openpairs.specs.Contracts.Waiting.{fits, waiting, Ready}
+use Rattle.openpairs.specs.Contracts.Waiting.{fits, waiting, PairsReady}
 use Rattle.memory.specs.Layout.{aroundFrom, keepsFrom, kindsFrom, marksFrom, nearFrom}
 
 module _ (v f : ℕ) (w : List ℕ) (p q : List Float) (limit : Limit) (bound : Float) (x : ℕ) where
@@ -74,7 +74,7 @@ module _ {v f : ℕ} {w₀ : List ℕ} {p q : List Float} {limit : Limit} {bound
   opening-none = record { but = but-refl _ _ w₀; sums = λ g. omega (arith, waiting-none v f w₀ p q limit bound x g) }
 
   module _ {w : List ℕ} {now-open i count : ℕ} (before : Opening v f w₀ p q limit bound x n w now-open i)
-      (ready : Ready v f w₀ p q limit bound x count n) (inside : i < count) where
+      (ready : PairsReady v f w₀ p q limit bound x count n) (inside : i < count) where
     pub opening-room : Room v f w
     opening-room = record {
       points-few = ready .room .points-few;

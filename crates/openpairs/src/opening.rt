@@ -16,7 +16,7 @@ ghost use Rattle.memory.specs.Points.{meshOf};
 ghost use Rattle.meaning.specs.Arithmetic.{rulesOf};
 ghost use Rattle.openpairs.specs.Contracts.Changes.{Added};
 ghost use Rattle.openpairs.specs.Contracts.Edges.{risingFrom, openedAround};
-ghost use Rattle.openpairs.specs.Contracts.Waiting.{fits, waiting, Ready};
+ghost use Rattle.openpairs.specs.Contracts.Waiting.{fits, waiting, PairsReady};
 
 // Whether x with y is eligible.
 fn is_eligible(
@@ -50,7 +50,7 @@ fn open_listed(
     count: usize,
     bounds: Bounds,
 ) -> usize
-    requires { ⌜ Ready v f (now w) (now p) (now q) (bounds .limit) (bounds .size) x count n ⌝ }
+    requires { ⌜ PairsReady v f (now w) (now p) (now q) (bounds .limit) (bounds .size) x count n ⌝ }
     ensures { λ r. ⌜ Added v f (now (w .entry)) n (waiting v f (now (w .entry)) (now (p .entry)) (now (q .entry)) (bounds .limit) (bounds .size) x count) (now (w .exit)) r ⌝ }
 {
     let mut now_open = n;

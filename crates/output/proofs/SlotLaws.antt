@@ -6,7 +6,7 @@ use native.Mathlib.Numerals.{add-one}
 use native.Mathlib.Omega.{arith}
 use mathlib.Core.Path.{_≡_, refl, sym, ap, subst, _∙_}
 use mathlib.Core.List.{List, [], _∷_, _++_, map, map-append, append-nil}
-use mathlib.Core.Bool.{Bool, true, false}
+use mathlib.Core.Bool.{true, false}
 use lib.Dec.{eqb}
 use lib.ListN.{length, length-map}
 use lib.Ieee.{Float}
@@ -15,8 +15,7 @@ use Rattle.walk.specs.declared.Face.{Face}
 use Rattle.lists.specs.Lists.{those, below, every, some}
 use Rattle.walk.specs.Faces.{proper, faceAt}
 use Rattle.walk.specs.Output.{used, renumbered, numbersOf}
-use Rattle.lists.proofs.TestLaws.{by-test}
-use Rattle.lists.proofs.EveryLaws.{length-those}
+use Rattle.lists.proofs.EveryLaws.{length-those, those-append}
 use Rattle.walk.proofs.PlaceLaws.{once-none}
 use Rattle.memory.specs.Memory.{live, lives, liveFaces, Room}
 use Rattle.lists.specs.Frames.{But}
@@ -26,22 +25,13 @@ use Rattle.lists.proofs.FrameLaws.{but-refl, but-then}
 use Rattle.memory.proofs.FrameLaws.{lives-but, face-but}
 use Rattle.memory.specs.Points.{partsOf}
 use Rattle.output.specs.declared.Counts.{Counts}
-use Rattle.output.specs.Contracts.Written.{Written}
+use Rattle.output.specs.Contracts.Written.{MeshWritten}
 use Rattle.output.specs.Contracts.Numbering.{Known, FacesOut, FaceWritten}
 use Rattle.memory.specs.Layout.{marksFrom, stampsFrom}
 
 -- the live faces among the first k slots
 abbrev pub firstFaces : ℕ → List ℕ → ℕ → List Face
 firstFaces f w k = map (faceAt w) (those (lives f w) (below k))
-
--- those of one list after those of another
-those-append : (test : ℕ → Bool) (xs ys : List ℕ) → those test (xs ++ ys) ≡ those test xs ++ those test ys
-unfolding those
-those-append test [] ys = refl
-those-append test (x ∷ xs) ys =
-    by-test (test x)
-    (λ e. rw e (ap (λ (l : List ℕ). x ∷ l) (those-append test xs ys)))
-    (λ e. rw e (those-append test xs ys))
 
 -- one slot more
 first-next : (f : ℕ) (w : List ℕ) (k : ℕ) → firstFaces f w (k + 1) ≡ firstFaces f w k ++ map (faceAt w) (those (lives f w) (k ∷ []))
@@ -159,7 +149,7 @@ module _ {v f : ℕ} {p : List Float} {w₀ : List ℕ} {points₀ : List Float}
       }
 
   -- all slots
-  pub turn-all : f ≤ k → Written v f w₀ p points₀ faces₀ w points faces counts
+  pub turn-all : f ≤ k → MeshWritten v f w₀ p points₀ faces₀ w points faces counts
   unfolding liveFaces
   turn-all all =
       let h : FacesOut v f p points₀ faces₀ (firstFaces f w₀ f) w points faces counts =

@@ -7,7 +7,7 @@ ghost use Rattle.walk.specs.Faces.{proper};
 ghost use Rattle.memory.specs.Memory.{Room};
 ghost use Rattle.mesh.specs.Contracts.Chains.{Tidy};
 ghost use Rattle.meaning.specs.Input.{pointAt};
-ghost use Rattle.output.specs.Contracts.Written.{Written};
+ghost use Rattle.output.specs.Contracts.Written.{MeshWritten};
 ghost use Rattle.output.specs.Contracts.Numbering.{threePut, partsPut, Known, Numbered, FaceWritten};
 use crate::Counts;
 use memory::face_in;
@@ -106,7 +106,7 @@ pub fn write_mesh(
     out_faces: &mut [u32],
 ) -> Counts
     requires { ⌜ Tidy v f (now w) ⌝ ∗ ⌜ 3 * v ≤ length (now p) ⌝ ∗ ⌜ 3 * v ≤ length (now «out_points») ⌝ ∗ ⌜ 3 * f ≤ length (now «out_faces») ⌝ }
-    ensures { λ r. ⌜ Written v f (now (w .entry)) (now (p .entry)) (now («out_points» .entry)) (now («out_faces» .entry)) (now (w .exit)) (now («out_points» .exit)) (now («out_faces» .exit)) r ⌝ }
+    ensures { λ r. ⌜ MeshWritten v f (now (w .entry)) (now (p .entry)) (now («out_points» .entry)) (now («out_faces» .entry)) (now (w .exit)) (now («out_points» .exit)) (now («out_faces» .exit)) r ⌝ }
 {
     let mut counts = Counts {
         points: 0,

@@ -1,7 +1,7 @@
 -- Laws on the definitions of specs/: a step of the choice among three points, and what a candidate and a kind say. Assumes nothing.
 use Prim.Native.Nat.{_<_, _^_}
-use mathlib.Core.Path.{_≡_, refl}
-use mathlib.Core.Bool.{Bool, true, false, cond}
+use mathlib.Core.Path.{_≡_, refl, sym, ap, _∙_}
+use mathlib.Core.Bool.{Bool, true, false, cond, true≢false}
 use lib.IntN.{ℤ}
 use lib.Ieee.{Float}
 use lib.Signed.{ltZ, mag}
@@ -47,6 +47,22 @@ eligible-is limit bound keep remove = go (eligible limit bound keep remove)
     go : (t : Bool) → opens (cond t (Eligible (pairCost bound keep remove) (pairPlace bound keep remove)) Ineligible) ≡ t
     go true = refl
     go false = refl
+
+-- where the candidate is one, the pair is eligible and the candidate has its cost and place; where it is none, the pair is not eligible
+pub candidate-eligible : (limit : Limit) (bound : Float) (keep remove : Vertex) (cost : Float) (place : Point) →
+    Eligible cost place ≡ pairCandidate limit bound keep remove →
+    (eligible limit bound keep remove ≡ true) × (cost ≡ pairCost bound keep remove) × (place ≡ pairPlace bound keep remove)
+unfolding pairCandidate
+candidate-eligible limit bound keep remove cost place is = go (eligible limit bound keep remove) is
+  where
+    go : (t : Bool) → Eligible cost place ≡ cond t (Eligible (pairCost bound keep remove) (pairPlace bound keep remove)) Ineligible →
+        (t ≡ true) × (cost ≡ pairCost bound keep remove) × (place ≡ pairPlace bound keep remove)
+    go true same = (refl, (cc), (cc))
+    go false other = absurd (true≢false (ap opens other))
+
+pub candidate-none : (limit : Limit) (bound : Float) (keep remove : Vertex) → Ineligible ≡ pairCandidate limit bound keep remove →
+    eligible limit bound keep remove ≡ false
+candidate-none limit bound keep remove is = sym (eligible-is limit bound keep remove) ∙ ap opens (sym is)
 
 -- the kind that is stored comes back
 pub kind-back : (k : Kind) → kindOf (kindNumber k) ≡ k

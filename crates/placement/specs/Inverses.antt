@@ -45,20 +45,20 @@ determinant m =
     (mul binary64 (m .m13) (minorC m))
 
 -- three entries, each over d
-abbrev pub over : Float → Float → Float → Float → List Float
-over d a b c = div binary64 a d ∷ div binary64 b d ∷ div binary64 c d ∷ []
+abbrev pub rowOver : Float → Float → Float → Float → List Float
+rowOver d a b c = div binary64 a d ∷ div binary64 b d ∷ div binary64 c d ∷ []
 
 -- (A, m13*m32-m33*m12, m12*m23-m22*m13)
 abbrev pub firstRow : Block → Float → List Float
-firstRow m d = over d (minorA m) (minor (m .m13) (m .m32) (m .m33) (m .m12)) (minor (m .m12) (m .m23) (m .m22) (m .m13))
+firstRow m d = rowOver d (minorA m) (minor (m .m13) (m .m32) (m .m33) (m .m12)) (minor (m .m12) (m .m23) (m .m22) (m .m13))
 
 -- (-B, m11*m33-m31*m13, m13*m21-m23*m11)
 abbrev pub secondRow : Block → Float → List Float
-secondRow m d = over d (neg (minorB m)) (minor (m .m11) (m .m33) (m .m31) (m .m13)) (minor (m .m13) (m .m21) (m .m23) (m .m11))
+secondRow m d = rowOver d (neg (minorB m)) (minor (m .m11) (m .m33) (m .m31) (m .m13)) (minor (m .m13) (m .m21) (m .m23) (m .m11))
 
 -- (C, m12*m31-m32*m11, m11*m22-m21*m12)
 abbrev pub thirdRow : Block → Float → List Float
-thirdRow m d = over d (minorC m) (minor (m .m12) (m .m31) (m .m32) (m .m11)) (minor (m .m11) (m .m22) (m .m21) (m .m12))
+thirdRow m d = rowOver d (minorC m) (minor (m .m12) (m .m31) (m .m32) (m .m11)) (minor (m .m11) (m .m22) (m .m21) (m .m12))
 
 -- no inverse
 abbrev pub none : Rows

@@ -5,7 +5,7 @@ use lib.Ieee.Scale.{finite}
 use Rattle.geometry.specs.declared.Point.{Point}
 use Rattle.geometry.specs.declared.Quadric.{Quadric}
 use Rattle.geometry.specs.Points.{difference, norm}
-use Rattle.geometry.specs.Quadrics.{sum}
+use Rattle.geometry.specs.Quadrics.{quadricSum}
 use Rattle.placement.specs.declared.Limit.{Limit}
 use Rattle.placement.specs.declared.place.Choice.{Choice}
 use Rattle.placement.specs.declared.pair.Vertex.{Vertex}
@@ -17,7 +17,7 @@ use Rattle.placement.specs.Places.{withError, placeOf}
 
 -- q, keep's quadric plus remove's
 unfoldable pub pairQuadric : Vertex → Vertex → Quadric
-pairQuadric keep remove = sum (keep .quadric) (remove .quadric)
+pairQuadric keep remove = quadricSum (keep .quadric) (remove .quadric)
 
 -- its length, the norm of keep's point less remove's
 unfoldable pub pairLength : Vertex → Vertex → Float

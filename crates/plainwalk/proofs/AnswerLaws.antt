@@ -4,7 +4,7 @@ use Prim.Native.Nat.{ℕ, _+_, _≤_, _<_}
 use native.Mathlib.Omega.{arith}
 use mathlib.Core.Path.{_≡_, refl, sym, ap, ap₂, subst, _∙_}
 use mathlib.Core.List.{List}
-use mathlib.Core.Bool.{Bool, true, false}
+use mathlib.Core.Bool.{true, false}
 use lib.Ieee.{Float}
 use lib.Dec.{leb}
 use lib.ListN.{length}
@@ -16,7 +16,7 @@ use Rattle.walk.specs.declared.Pair.{Pair}
 use Rattle.lists.specs.Lists.{sum, below}
 use Rattle.walk.specs.Faces.{Mesh}
 use Rattle.walk.specs.FoldTest.{allowed}
-use Rattle.walk.specs.Walk.{State, Answer, folded, closed, ended, tried, chosen, answer, after, SameState}
+use Rattle.walk.specs.Walk.{State, StepAnswer, folded, closed, ended, tried, chosen, answer, after, SameState}
 use Rattle.walk.specs.Pairs.{pairOf}
 use Rattle.walk.proofs.SamePairs.{bag-taken-pair}
 use Rattle.lists.proofs.BagLaws.{bag-refl}
@@ -36,10 +36,10 @@ use Rattle.plainwalk.specs.declared.Step.the-variants.{Closed, Ended}
 use Rattle.plainwalk.specs.declared.Stepped.{Stepped}
 use Rattle.plainwalk.specs.Steps.{Holds, Found, AnswerDone, PairTried, StepDone}
 use Rattle.walk.proofs.StateLaws.{same-refl, sound-bag}
-use Rattle.plainwalk.proofs.MemoryLaws.{vertex-but, pair-same, state-but, open-at, open-points, open-few, open-fitting, within-refl, within-but, within-then}
+use Rattle.plainwalk.proofs.MemoryLaws.{pair-same, state-but, open-at, open-points, open-few, open-fitting, within-refl, within-but, within-then}
 use Rattle.memory.specs.Layout.{foldsFrom, nearFrom}
 use Rattle.lists.proofs.CondLaws.{cond-same}
-use Rattle.memory.proofs.MeshLaws.{mesh-but}
+use Rattle.memory.proofs.MeshLaws.{vertex-but, mesh-but}
 
 -- ---- the end
 
@@ -76,7 +76,7 @@ module _ {v f : ℕ} {w : List ℕ} {p q : List Float} {n live : ℕ} (h : Holds
   pub least-step : target < live → (r : Least) → LeastAt v f w p q n limit bound r → {w' : List ℕ} {p' q' : List Float} {s : Stepped} →
       PairTried v f w p q n r limit bound w' p' q' s → StepDone v f w p q n target limit bound w' p' q' s
   least-step above r least {w'} {p'} {q'} {s} done =
-      subst (λ (a : Answer). AnswerDone v f w p q n limit bound a w' p' q' s) (sym (least-answer above r least)) done
+      subst (λ (a : StepAnswer). AnswerDone v f w p q n limit bound a w' p' q' s) (sym (least-answer above r least)) done
 
 -- ---- a pair that was found
 
@@ -133,20 +133,18 @@ module _ {v f : ℕ} {w : List ℕ} {p q : List Float} {n live : ℕ} {bound : F
 
 -- ---- a pair that is tried
 
-module _ (v f : ℕ) (w : List ℕ) (p q : List Float) (n : ℕ) (r : Least) (limit : Limit) (bound : Float) where
+module _ (v f : ℕ) (w : List ℕ) (p q : List Float) (n : ℕ) (r : Least) (limit : Limit) (bound : Float) {w' : List ℕ} {p' q' : List Float} {s : Stepped} where
   -- allowed, it is folded
-  pub tried-folded : {w' : List ℕ} {p' q' : List Float} {s : Stepped} (ok : Bool) → ok ≡ true →
-      ok ≡ allowed (rulesOf limit bound) (meshOf v f w p q) (pairOf (r .fold .keep) (r .fold .remove)) →
+  pub tried-folded : allowed (rulesOf limit bound) (meshOf v f w p q) (pairOf (r .fold .keep) (r .fold .remove)) ≡ true →
       AnswerDone v f w p q n limit bound (folded (pairOf (r .fold .keep) (r .fold .remove))) w' p' q' s → PairTried v f w p q n r limit bound w' p' q' s
   unfolding tried
-  tried-folded ok passes is done = rw (sym is ∙ passes) done
+  tried-folded passes done = rw passes done
 
   -- not allowed, it is closed
-  pub tried-closed : {w' : List ℕ} {p' q' : List Float} {s : Stepped} (ok : Bool) → ok ≡ false →
-      ok ≡ allowed (rulesOf limit bound) (meshOf v f w p q) (pairOf (r .fold .keep) (r .fold .remove)) →
+  pub tried-closed : allowed (rulesOf limit bound) (meshOf v f w p q) (pairOf (r .fold .keep) (r .fold .remove)) ≡ false →
       AnswerDone v f w p q n limit bound (closed (pairOf (r .fold .keep) (r .fold .remove))) w' p' q' s → PairTried v f w p q n r limit bound w' p' q' s
   unfolding tried
-  tried-closed ok fails is done = rw (sym is ∙ fails) done
+  tried-closed fails done = rw fails done
 
 -- what is done after cells of near and far have changed is done to the state as it was
 pub tried-before : {v f : ℕ} {w w₁ : List ℕ} {p q : List Float} {n live lo hi : ℕ} (r : Least) {limit : Limit} {bound : Float}

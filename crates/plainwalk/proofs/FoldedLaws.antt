@@ -10,18 +10,17 @@ use Rattle.placement.specs.declared.Limit.{Limit}
 use Rattle.placement.specs.declared.pair.Vertex.{Vertex}
 use Rattle.lists.specs.Lists.{sum, those}
 use Rattle.walk.specs.Faces.{Mesh}
-use Rattle.walk.specs.Fold.{foldedFaces, foldedMesh}
+use Rattle.walk.specs.Fold.{foldedMesh}
 use Rattle.walk.specs.Walk.{folded, after, SameState}
 use Rattle.walk.specs.Pairs.{pairOf, apart, opened}
 use Rattle.lists.proofs.SumLaws.{sum-append}
-use Rattle.walk.proofs.FoldLaws.{fold-exact}
 use Rattle.walk.proofs.SoundLaws.{isOpen, fold-sound}
 use Rattle.walk.proofs.StepLaws.{fold-room}
 use Rattle.memory.specs.Memory.{liveFaces}
 use Rattle.mesh.specs.Contracts.Chains.{Tidy}
 use Rattle.lists.proofs.FrameLaws.{but-widen}
 use Rattle.mesh.proofs.TidyLaws.{tidy-but}
-use Rattle.mesh.proofs.AroundLaws.{live-faces-but}
+use Rattle.mesh.proofs.AroundLaws.{live-faces-but, live-few}
 use Rattle.memory.specs.Points.{meshOf}
 use Rattle.meaning.specs.Arithmetic.{rulesOf}
 use Rattle.openpairs.specs.State.{openPairs, stateOf}
@@ -30,21 +29,19 @@ use Rattle.folding.specs.Contracts.Folds.{MeshFolded}
 use Rattle.plainwalk.specs.declared.Step.the-variants.{Folded}
 use Rattle.plainwalk.specs.Steps.{Holds, StepWithin, AnswerDone}
 use Rattle.walk.proofs.StateLaws.{sound-bag}
-use Rattle.plainwalk.proofs.MemoryLaws.{live-few, pairs-same, open-length, open-few, within-but, within-then}
+use Rattle.plainwalk.proofs.MemoryLaws.{pairs-same, open-few, within-but, within-then}
 use Rattle.memory.proofs.MeshLaws.{mesh-but}
 use Rattle.lists.proofs.DropLaws.{rest-more}
 use Rattle.memory.specs.Layout.{costsTo, placesTo}
+use Rattle.openpairs.proofs.OpenLaws.{open-length}
+use Rattle.folding.proofs.TriedLaws.{folded-live}
 
 module _ {v f : ℕ} {w : List ℕ} {p q : List Float} {n live : ℕ} {limit : Limit} {bound : Float} {keep remove : ℕ}
     {w₁ : List ℕ} {p' q' : List Float} {gone : ℕ}
     (h : Holds v f w p q n live) (fold : MeshFolded v f limit bound w p q keep remove w₁ p' q' gone) where
   -- the faces that are gone and those that are left are the faces before
-  folded-faces : liveFaces f w₁ ≡ foldedFaces (liveFaces f w) (pairOf keep remove)
-  unfolding meshOf foldedMesh
-  folded-faces = ap (λ (m : Mesh Vertex). m .faces) (fold .same-mesh)
-
-  pub folded-live : length (liveFaces f w₁) + gone ≡ live
-  folded-live = omega (arith, fold-exact (liveFaces f w) (pairOf keep remove), ap length folded-faces, fold .counted, h .counted)
+  pub left-live : length (liveFaces f w₁) + gone ≡ live
+  left-live = folded-live fold ∙ sym (h .counted)
 
   module _ {w₂ : List ℕ} {kept : ℕ} (drop : Dropped v f w₁ n keep remove w₂ kept) (is-open : isOpen (stateOf v f w p q n) (pairOf keep remove)) where
     -- the pairs that stay, and the mesh
@@ -111,7 +108,7 @@ module _ {v f : ℕ} {w : List ℕ} {p q : List Float} {n live : ℕ} {limit : L
               quadrics-long = omega (arith, fold .same-length-q, h .quadrics-long);
               sound = sound-bag folded-state (fold-sound (rulesOf limit bound) (stateOf v f w p q n) (h .sound) (pairOf keep remove) is-open);
               counted =
-                  let left : live - gone ≡ length (liveFaces f w₁) = omega (arith, folded-live) in
+                  let left : live - gone ≡ length (liveFaces f w₁) = omega (arith, left-live) in
                   left ∙ sym (ap length (live-faces-but f (add .but) (omega arith) ∙ live-faces-but f (drop .but) (omega arith)));
             };
         within = folded-within;

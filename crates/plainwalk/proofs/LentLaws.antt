@@ -32,7 +32,8 @@ use Rattle.plainwalk.specs.declared.Walked.{Walked}
 use Rattle.plainwalk.specs.Steps.{answerOf, StepWithin, Within}
 use Rattle.plainwalk.specs.Whole.{startIn, WalkedFrom, WalkDone}
 use Rattle.plainwalk.proofs.NoteLaws.{folds-length, folds-same, folds-more, noted-but}
-use Rattle.plainwalk.proofs.MemoryLaws.{live-few, within-refl, within-but, within-more, within-then}
+use Rattle.plainwalk.proofs.MemoryLaws.{within-refl, within-but, within-more, within-then}
+use Rattle.mesh.proofs.AroundLaws.{live-few}
 
 -- The lent memory between two steps, the number of what it keeps open pairs in, and the number of live faces.
 pub record Lent : Type 0 where

@@ -4,5 +4,6 @@ pub mod NoteLaws
 pub mod LentLaws
 pub mod AnswerLaws
 pub mod FoldedLaws
+mod TriedLaws
 pub mod WalkLaws
 pub mod Theorems

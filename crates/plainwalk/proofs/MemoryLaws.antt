@@ -4,57 +4,33 @@ use Prim.Native.Nat.{ℕ, _+_, _*_, _≤_, _<_}
 use native.Mathlib.Omega.{arith}
 use mathlib.Core.Path.{_≡_, refl, sym, ap, _∙_}
 use mathlib.Core.List.{List, map}
-use mathlib.Core.Bool.{Bool, true, cond}
+use mathlib.Core.Bool.{true}
 use lib.Ieee.{Float}
 use lib.ListN.{length, getD}
 use borrow.Author.Tests.{ltb-true}
 use Rattle.walk.specs.declared.Pair.{Pair}
 use Rattle.lists.specs.Lists.{every, below}
-use Rattle.walk.specs.Faces.{proper, faceAt}
 use Rattle.walk.specs.Pairs.{samePair}
-use Rattle.lists.proofs.EveryLaws.{some-count, some-from, every-counted}
-use Rattle.lists.proofs.SumLaws.{sum-length}
+use Rattle.lists.proofs.EveryLaws.{some-count, some-from}
 use Rattle.walk.proofs.SamePairs.{pair-path, same-self}
 use Rattle.walk.proofs.SoundLaws.{isOpen, open-below}
 use Rattle.walk.proofs.StepLaws.{open-bound}
 use Rattle.walk.proofs.LeastLaws.{fitting}
 use Rattle.walk.proofs.BagWalk.{sound-fitting}
-use Rattle.memory.specs.Memory.{lives, liveFaces}
 use Rattle.lists.specs.Frames.{But}
-use Rattle.mesh.specs.Contracts.Chains.{Tidy}
-use Rattle.lists.proofs.TestLaws.{by-outcome}
-use Rattle.lists.proofs.BelowLaws.{sum-none, count-below-most, map-same-below, length-each, getD-each}
+use Rattle.lists.proofs.BelowLaws.{length-each, getD-each}
 use Rattle.lists.proofs.FrameLaws.{but-refl, but-then, but-widen}
 use Rattle.mesh.proofs.TidyLaws.{tidy-but}
-use Rattle.mesh.proofs.AroundLaws.{live-faces-but, live-sums}
-use Rattle.memory.specs.Points.{vertexAt}
+use Rattle.mesh.proofs.AroundLaws.{live-faces-but, live-few}
 use Rattle.memory.proofs.MeshLaws.{mesh-length, mesh-but}
 use Rattle.memory.specs.Entries.{pairAt}
 use Rattle.openpairs.specs.State.{openPairs, stateOf}
 use Rattle.openpairs.specs.Contracts.Changes.{Named}
 use Rattle.plainwalk.specs.Steps.{Holds, WithinTo}
-use Rattle.memory.specs.Layout.{keepsFrom, kindsFrom, marksFrom, nearFrom, removesFrom}
-
--- ---- the live faces
-
--- there are at most f
-pub live-few : (f : ℕ) (w : List ℕ) → length (liveFaces f w) ≤ f
-live-few f w = omega (arith, sum-length (liveFaces f w), live-sums f w (λ x. 1), count-below-most (lives f w) f)
-
--- each has three distinct points below v
-pub live-proper : {v f : ℕ} {w : List ℕ} → Tidy v f w → every (proper v) (liveFaces f w) ≡ true
-live-proper {v} {f} {w} tidy =
-    every-counted (proper v) (liveFaces f w)
-    (live-sums f w (λ x. cond (proper v x) 0 1)
-    ∙ sum-none _ f (λ k l. by-outcome (λ (b : Bool). b ≡ lives f w k → _≡_ {A = ℕ} (cond b (cond (proper v (faceAt w k)) 0 1) 0) 0) (lives f w k)
-    (λ e s. rw (tidy .faces-proper k l e)) (λ e s. refl) refl))
+use Rattle.memory.specs.Layout.{keepsFrom, nearFrom, removesFrom}
+use Rattle.openpairs.proofs.OpenLaws.{open-length, open-same}
 
 -- ---- what the state hangs on
-
--- what a point carries: on its kind
-pub vertex-but : (v f : ℕ) {lo hi : ℕ} {w w' : List ℕ} (p q : List Float) → But lo hi w w' → marksFrom v f ≤ lo → (x : ℕ) → x < v →
-    vertexAt v f w' p q x ≡ vertexAt v f w p q x
-vertex-but v f {lo} {hi} {w} {w'} p q but above x l = rw (but .under (kindsFrom v f + x) (omega arith))
 
 -- the open pairs: on their own cells
 module _ (v f n : ℕ) (w w' : List ℕ) (few : n ≤ 3 * f)
@@ -63,8 +39,7 @@ module _ (v f n : ℕ) (w w' : List ℕ) (few : n ≤ 3 * f)
   pair-same i l = pair-path (same (keepsFrom v f + i) (omega arith) (omega arith)) (same (removesFrom v f + i) (omega arith) (omega arith))
 
   pub pairs-same : openPairs v f w' n ≡ openPairs v f w n
-  unfolding openPairs
-  pairs-same = map-same-below (pairAt v f w') (pairAt v f w) n pair-same
+  pairs-same = open-same v f w w' n pair-same
 
 -- the whole state: on the cells below those of near and far
 pub state-but : (v f n : ℕ) {lo hi : ℕ} {w w' : List ℕ} (p q : List Float) → But lo hi w w' → nearFrom v f ≤ lo → n ≤ 3 * f →
@@ -74,11 +49,6 @@ state-but v f n {lo} {hi} {w} {w'} p q but above few =
     rw (mesh-but v f p q but (omega arith), pairs-same v f n w w' few (λ i l m. but .under i (omega arith)))
 
 -- ---- what is true of it
-
--- there are n open pairs
-pub open-length : (v f : ℕ) (w : List ℕ) (n : ℕ) → length (openPairs v f w n) ≡ n
-unfolding openPairs
-open-length v f w n = length-each (pairAt v f w) n
 
 -- the pair in each place is one of them
 pub open-at : (v f : ℕ) (w : List ℕ) (p q : List Float) (n i : ℕ) → i < n → isOpen (stateOf v f w p q n) (pairAt v f w i)

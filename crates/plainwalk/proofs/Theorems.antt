@@ -19,8 +19,8 @@ use Rattle.memory.specs.Points.{meshOf}
 use Rattle.meaning.specs.Arithmetic.{rulesOf}
 use Rattle.plainwalk.specs.declared.Walked.{Walked}
 use Rattle.plainwalk.specs.Whole.{startIn, WalkDone}
-use Rattle.plainwalk.proofs.MemoryLaws.{live-few}
 use Rattle.plainwalk.proofs.WalkLaws.{start-sound}
+use Rattle.mesh.proofs.AroundLaws.{live-few}
 
 -- the state that the plain walk of the mesh in memory comes to
 abbrev pub endIn : ℕ → ℕ → List ℕ → List Float → List Float → ℕ → Limit → Float → State Vertex

@@ -15,7 +15,7 @@ use Rattle.walk.proofs.SoundLaws.{started-sound}
 use Rattle.memory.specs.Memory.{liveFaces}
 use Rattle.mesh.specs.Contracts.Chains.{Tidy}
 use Rattle.mesh.proofs.TidyLaws.{tidy-but}
-use Rattle.mesh.proofs.AroundLaws.{live-faces-but}
+use Rattle.mesh.proofs.AroundLaws.{live-faces-but, live-proper}
 use Rattle.memory.specs.Points.{meshOf}
 use Rattle.meaning.specs.Arithmetic.{rulesOf}
 use Rattle.openpairs.specs.State.{openPairs, stateOf}
@@ -26,7 +26,7 @@ use Rattle.plainwalk.specs.Steps.{Holds, StepDone}
 use Rattle.plainwalk.specs.Whole.{startIn, WalkedFrom, WalkDone}
 use Rattle.walk.proofs.StateLaws.{sound-bag}
 use Rattle.plainwalk.proofs.LentLaws.{lent, Holding, Taken, walked-whole}
-use Rattle.plainwalk.proofs.MemoryLaws.{live-proper, state-but, open-few, holds-but, within-but}
+use Rattle.plainwalk.proofs.MemoryLaws.{state-but, open-few, holds-but, within-but}
 use Rattle.memory.proofs.MeshLaws.{mesh-length, mesh-but}
 
 -- ---- the start
@@ -35,7 +35,7 @@ use Rattle.memory.proofs.MeshLaws.{mesh-length, mesh-but}
 pub start-sound : {v f : ℕ} {w : List ℕ} (limit : Limit) (bound : Float) (p q : List Float) → Tidy v f w → Sound (startIn v f w p q limit bound)
 unfolding meshOf
 start-sound {v} {f} {w} limit bound p q tidy =
-    started-sound (rulesOf limit bound) (meshOf v f w p q) (rw (mesh-length v f w p q) (live-proper tidy))
+    started-sound (rulesOf limit bound) (meshOf v f w p q) (rw (mesh-length v f w p q) (live-proper v f w (tidy .faces-proper)))
 
 -- ---- the plain walk as a walk
 

@@ -6,7 +6,7 @@ use lib.ListN.{length, drop}
 use lib.Ieee.{Float}
 use Rattle.placement.specs.declared.Limit.{Limit}
 use Rattle.placement.specs.Pairs.{pairPlace}
-use Rattle.walk.specs.Walk.{Answer, folded, closed, ended, tried, answer, after, SameState}
+use Rattle.walk.specs.Walk.{StepAnswer, folded, closed, ended, tried, answer, after, SameState}
 use Rattle.walk.specs.Pairs.{pairOf}
 use Rattle.walk.specs.Sound.{Sound}
 use Rattle.memory.specs.Memory.{liveFaces}
@@ -23,7 +23,7 @@ use Rattle.plainwalk.specs.declared.Stepped.{Stepped}
 use Rattle.memory.specs.Layout.{costsTo, foldsFrom, placesTo, workTo}
 
 -- what each case of a step's answer stands for
-abbrev pub answerOf : Step → Answer
+abbrev pub answerOf : Step → StepAnswer
 answerOf (Folded p) = folded p
 answerOf (Closed p) = closed p
 answerOf Ended = ended
@@ -58,7 +58,7 @@ abbrev pub Within : (v f : ℕ) (w : List ℕ) (p q : List Float) (w' : List ℕ
 Within v f = WithinTo (workTo v f) v f
 
 -- An answer is given and acted on: the state after it is the plain walk's, the open pairs in any order.
-pub record AnswerDone (v f : ℕ) (w : List ℕ) (p q : List Float) (n : ℕ) (limit : Limit) (bound : Float) (a : Answer) (w' : List ℕ) (p' q' : List Float) (r : Stepped) : Type 0 where
+pub record AnswerDone (v f : ℕ) (w : List ℕ) (p q : List Float) (n : ℕ) (limit : Limit) (bound : Float) (a : StepAnswer) (w' : List ℕ) (p' q' : List Float) (r : Stepped) : Type 0 where
   pub holds : Holds v f w' p' q' (r .«open») (r .live)
   pub within : StepWithin v f w p q w' p' q'
   pub same-answer : answerOf (r .step) ≡ a

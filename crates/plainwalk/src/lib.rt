@@ -2,17 +2,14 @@
 ghost use mathlib.Core.Path.{_≡_};
 ghost use Prim.Native.Nat.{_+_, _*_, _≤_, _<_};
 ghost use lib.ListN.{length};
-ghost use Rattle.walk.specs.Pairs.{pairOf};
-ghost use Rattle.walk.specs.Walk.{folded};
 ghost use Rattle.memory.specs.Memory.{liveFaces};
 ghost use Rattle.mesh.specs.Contracts.Chains.{Tidy};
 ghost use Rattle.openpairs.specs.State.{stateOf};
-ghost use Rattle.ring.specs.Contracts.Rings.{Ringed};
-ghost use Rattle.plainwalk.specs.Steps.{Holds, Found, AnswerDone, PairTried, StepDone};
+ghost use Rattle.plainwalk.specs.Steps.{Holds, Found, PairTried, StepDone};
 ghost use Rattle.plainwalk.specs.Whole.{WalkedFrom, WalkDone};
+use folding::Tried;
 use openpairs::Least;
 use placement::Bounds;
-use ring::Ring;
 use walk::Pair;
 
 // What a step did: it folded a pair, closed one, or found the walk at its end.
@@ -35,72 +32,8 @@ pub struct Walked {
     pub live: usize,
 }
 
-// Folds the pair that was found: the mesh, then the open pairs. The faces around its points are listed.
-fn fold_pair(
-    w: &mut [u32],
-    p: &mut [f32],
-    q: &mut [f64],
-    v: usize,
-    f: usize,
-    open: usize,
-    live: usize,
-    least: Least,
-    ring: Ring,
-    bounds: Bounds,
-) -> Stepped
-    requires { ⌜ Holds v f (now w) (now p) (now q) «open» live ⌝
-        ∗ ⌜ Found v f (now w) (now p) (now q) «open» (bounds .size) least ⌝
-        ∗ ⌜ Ringed v f (now w) (least .fold .keep) (least .fold .remove) ring ⌝ }
-    ensures { λ r. ⌜ AnswerDone v f (now (w .entry)) (now (p .entry)) (now (q .entry)) «open» (bounds .limit) (bounds .size) (folded (pairOf (least .fold .keep) (least .fold .remove))) (now (w .exit)) (now (p .exit)) (now (q .exit)) r ⌝ }
-{
-    let fold = least.fold;
-    let keep = fold.keep;
-    let remove = fold.remove;
-    let gone = folding::fold_mesh(w, p, q, v, f, fold, ring);
-    let kept = openpairs::drop_pairs(w, v, f, open, keep, remove);
-    let opened = openpairs::open_neighbours(w, p, q, v, f, kept, keep, bounds);
-    let left = live - gone;
-    Stepped {
-        step: Step::Folded(Pair { keep, remove }),
-        open: opened,
-        live: left,
-    }
-}
-
-// Folds the pair that was found where that is allowed, and closes it where it is not. The faces around its points are listed.
-fn fold_or_close(
-    w: &mut [u32],
-    p: &mut [f32],
-    q: &mut [f64],
-    v: usize,
-    f: usize,
-    open: usize,
-    live: usize,
-    least: Least,
-    ring: Ring,
-    bounds: Bounds,
-) -> Stepped
-    requires { ⌜ Holds v f (now w) (now p) (now q) «open» live ⌝
-        ∗ ⌜ Found v f (now w) (now p) (now q) «open» (bounds .size) least ⌝
-        ∗ ⌜ Ringed v f (now w) (least .fold .keep) (least .fold .remove) ring ⌝ }
-    ensures { λ r. ⌜ PairTried v f (now (w .entry)) (now (p .entry)) (now (q .entry)) «open» least (bounds .limit) (bounds .size) (now (w .exit)) (now (p .exit)) (now (q .exit)) r ⌝ }
-{
-    let fold = least.fold;
-    if foldtest::is_allowed(w, p, v, f, fold, ring) {
-        return fold_pair(w, p, q, v, f, open, live, least, ring, bounds);
-    }
-    let at = least.at;
-    let still_open = openpairs::close_pair(w, v, f, open, at);
-    let keep = fold.keep;
-    let remove = fold.remove;
-    Stepped {
-        step: Step::Closed(Pair { keep, remove }),
-        open: still_open,
-        live,
-    }
-}
-
-// Tries the pair that was found, with the faces around its two points listed first.
+// Tries the pair that was found: the mesh is folded where that is allowed, and then the pairs of its points are dropped and keep's opened anew; where it isn't
+// allowed the pair is closed.
 fn try_pair(
     w: &mut [u32],
     p: &mut [f32],
@@ -116,8 +49,29 @@ fn try_pair(
     ensures { λ r. ⌜ PairTried v f (now (w .entry)) (now (p .entry)) (now (q .entry)) «open» least (bounds .limit) (bounds .size) (now (w .exit)) (now (p .exit)) (now (q .exit)) r ⌝ }
 {
     let fold = least.fold;
-    let ring = ring::gather(w, v, f, fold.keep, fold.remove);
-    fold_or_close(w, p, q, v, f, open, live, least, ring, bounds)
+    let keep = fold.keep;
+    let remove = fold.remove;
+    match folding::try_fold(w, p, q, v, f, fold) {
+        Tried::Folded(gone) => {
+            let kept = openpairs::drop_pairs(w, v, f, open, keep, remove);
+            let opened = openpairs::open_neighbours(w, p, q, v, f, kept, keep, bounds);
+            let left = live - gone;
+            Stepped {
+                step: Step::Folded(Pair { keep, remove }),
+                open: opened,
+                live: left,
+            }
+        }
+        Tried::Refused => {
+            let at = least.at;
+            let still_open = openpairs::close_pair(w, v, f, open, at);
+            Stepped {
+                step: Step::Closed(Pair { keep, remove }),
+                open: still_open,
+                live,
+            }
+        }
+    }
 }
 
 // One step of the plain walk: the least open pair is folded or closed; at the target, or with no open pair, the walk has ended.

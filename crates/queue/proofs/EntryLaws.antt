@@ -14,7 +14,7 @@ use Rattle.memory.specs.Memory.{Room}
 use Rattle.lists.specs.Frames.{But}
 use Rattle.memory.specs.Entries.{pairAt, slotAt, queued}
 use Rattle.queue.specs.State.{isCurrent, isQueued, openIn}
-use Rattle.queue.specs.Contracts.Queued.{Queue, Named, Entered}
+use Rattle.queue.specs.Contracts.Queued.{Queue, QueueNamed, EntryNamed}
 use Rattle.queue.proofs.OrderLaws.{sum-members, place-queued}
 use Rattle.queue.proofs.MovedLaws.{Moved, untouched, moved-but, pair-moved, current-same, queue-slot}
 use Rattle.memory.specs.Layout.{keepStampsFrom, orderFrom}
@@ -37,13 +37,13 @@ pub open-length : (v f : ℕ) (w : List ℕ) (n : ℕ) → length (openIn v f w 
 open-length v f w n = sym (sum-length (openIn v f w n)) ∙ open-sum v f w n (λ p. 1)
 
 -- what is queued is a slot with a pair
-pub queue-entered : {v f : ℕ} {w : List ℕ} {q : List Float} {n : ℕ} → Queue v f w q n → Named v f w n →
-    (s : ℕ) → isQueued v f w n s ≡ true → Entered v f w s
+pub queue-entered : {v f : ℕ} {w : List ℕ} {q : List Float} {n : ℕ} → Queue v f w q n → QueueNamed v f w n →
+    (s : ℕ) → isQueued v f w n s ≡ true → EntryNamed v f w s
 queue-entered queue named s there =
     record { slot = queue-slot queue s there; keep = named s there .0; remove = named s there .1 }
 
-pub place-entered : {v f : ℕ} {w : List ℕ} {q : List Float} {n : ℕ} → Queue v f w q n → Named v f w n →
-    (i : ℕ) → i < n → Entered v f w (slotAt v f w i)
+pub place-entered : {v f : ℕ} {w : List ℕ} {q : List Float} {n : ℕ} → Queue v f w q n → QueueNamed v f w n →
+    (i : ℕ) → i < n → EntryNamed v f w (slotAt v f w i)
 place-entered {v} {f} {w} queue named i inside = queue-entered queue named (slotAt v f w i) (place-queued v f w inside)
 
 -- the memory has its room still
@@ -58,7 +58,7 @@ module _ (v f : ℕ) {w w' : List ℕ} (but : But (orderFrom v f) (keepStampsFro
   order-moved = moved-but [] [] but (omega arith) (omega arith)
 
   -- the open pairs of another order, weighed as before
-  pub open-sum-kept : (n : ℕ) → ((s : ℕ) → isQueued v f w' n s ≡ true → Entered v f w s) → (g : Pair → ℕ) →
+  pub open-sum-kept : (n : ℕ) → ((s : ℕ) → isQueued v f w' n s ≡ true → EntryNamed v f w s) → (g : Pair → ℕ) →
       sum g (openIn v f w' n) ≡ sum (weighed v f w g) (queued v f w' n)
   open-sum-kept n entered g =
       open-sum v f w' n g

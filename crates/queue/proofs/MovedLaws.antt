@@ -25,7 +25,7 @@ use Rattle.memory.specs.Entries.{pairAt, slotAt, queued, costIn, stamp, keepSta
 use Rattle.memory.specs.Layout.{foldsFrom, keepStampsFrom, keepsFrom, kindsFrom, nearFrom, removeStampsFrom, removesFrom, stampsFrom}
 use Rattle.queue.specs.Contracts.Ranks.{rankIn, rankAt}
 use Rattle.queue.specs.State.{isCurrent, isQueued, openIn, heapState}
-use Rattle.queue.specs.Contracts.Queued.{Queue, Named, Entered, Kept}
+use Rattle.queue.specs.Contracts.Queued.{Queue, QueueNamed, EntryNamed, Kept}
 use Rattle.queue.specs.Contracts.Changes.{Fewer}
 use Rattle.queue.proofs.OrderLaws.{place-queued, queued-slot}
 
@@ -96,7 +96,7 @@ module _ {v f : ℕ} {w : List ℕ} {p q : List Float} {w' : List ℕ} {p' q' : 
   rank-moved s l = rw (moved .costs s l, moved .keeps s l, moved .removes s l)
 
   -- its points are below v still
-  pub entered-moved : {s : ℕ} → Entered v f w s → Entered v f w' s
+  pub entered-moved : {s : ℕ} → EntryNamed v f w s → EntryNamed v f w' s
   entered-moved {s} entered = record {
     slot = entered .slot;
     keep = rw (moved .keeps s (entered .slot)) (entered .keep);
@@ -104,7 +104,7 @@ module _ {v f : ℕ} {w : List ℕ} {p q : List Float} {w' : List ℕ} {p' q' : 
   }
 
   -- it stays current where neither of its points is touched
-  pub current-moved : {s : ℕ} → Entered v f w s →
+  pub current-moved : {s : ℕ} → EntryNamed v f w s →
       (touched (pairAt v f w s .keep) ≡ true → keepStamp v f w s ≤ stamp v f w (pairAt v f w s .keep)) →
       (touched (pairAt v f w s .remove) ≡ true → removeStamp v f w s ≤ stamp v f w (pairAt v f w s .remove)) →
       isCurrent v f w' s ≡ (isCurrent v f w s && spared touched (pairAt v f w s))
@@ -126,7 +126,7 @@ module _ {v f : ℕ} {w : List ℕ} {p q : List Float} {w' : List ℕ} {p' q' : 
 -- where no point is touched
 module _ {v f : ℕ} {w : List ℕ} {p q : List Float} {w' : List ℕ} {p' q' : List Float} (moved : Moved v f w p q w' p' q' untouched) where
   -- an entry is current as before
-  pub current-same : {s : ℕ} → Entered v f w s → isCurrent v f w' s ≡ isCurrent v f w s
+  pub current-same : {s : ℕ} → EntryNamed v f w s → isCurrent v f w' s ≡ isCurrent v f w s
   current-same {s} entered =
       current-moved moved entered (λ e. absurd (false≢true e)) (λ e. absurd (false≢true e)) ∙ and-true (isCurrent v f w s)
 
@@ -161,7 +161,7 @@ module _ {v f : ℕ} {w : List ℕ} {p q : List Float} {w' : List ℕ} {p' q' : 
     fewer-moved s e = rw (queued-moved n (queue .few)) at e
 
   -- the pairs of what is queued are of points below v still
-  pub named-moved : (n' : ℕ) → Fewer v f w n w' n' → Named v f w n → Named v f w' n'
+  pub named-moved : (n' : ℕ) → Fewer v f w n w' n' → QueueNamed v f w n → QueueNamed v f w' n'
   named-moved n' fewer named s e =
       let was = fewer s e in
       let l = queue-slot queue s was in
@@ -173,7 +173,7 @@ module _ {v f : ℕ} {w : List ℕ} {p q : List Float} {w' : List ℕ} {p' q' : 
     -- an entry stays current where neither of its points is touched
     current-queued : (s : ℕ) → isQueued v f w n s ≡ true → isCurrent v f w' s ≡ (isCurrent v f w s && spared touched (pairAt v f w s))
     current-queued s e =
-        let entered : Entered v f w s = record { slot = queue-slot queue s e; keep = kept .named s e .0; remove = kept .named s e .1 } in
+        let entered : EntryNamed v f w s = record { slot = queue-slot queue s e; keep = kept .named s e .0; remove = kept .named s e .1 } in
         current-moved moved entered (λ t. kept .older s e .0) (λ t. kept .older s e .1)
 
     -- so the open pairs are those that are spared

@@ -2,21 +2,19 @@
 -- Assumes nothing.
 use Prim.Native.Nat.{ℕ, suc, _+_, _*_, _≤_, _<_, suc-le-suc}
 use native.Mathlib.Nat.{zero-lt-suc}
-use native.Mathlib.Numerals.{add-one}
 use native.Mathlib.Omega.{arith}
 use mathlib.Core.Path.{_≡_, refl, sym, ap, ap₂, subst, _∙_}
 use mathlib.Core.List.{List, [], _∷_}
 use mathlib.Core.Bool.{Bool, true, cond, false≢true}
 use mathlib.Mathlib.Data.Bool.Basic.{or-inl, or-inr}
 use lib.Dec.{ltb, eqb}
-use lib.ListN.{length, getD, length-map}
+use lib.ListN.{length, getD}
 use borrow.Author.Tests.{eq-eqb, eqb-true, lt-ltb, ltb-true}
 use Rattle.lists.specs.Lists.{sum, count, every, some, below}
 use Rattle.lists.proofs.TestLaws.{by-test, flag-true}
 use Rattle.lists.proofs.SumLaws.{sum-zero}
 use Rattle.lists.proofs.EveryLaws.{some-count, some-from, every-counted}
-use Rattle.lists.proofs.BelowLaws.{length-below, count-below, map-same-below, getD-each}
-use Rattle.queue.proofs.RootLaws as pop-laws
+use Rattle.lists.proofs.BelowLaws.{length-each, count-below, map-same-below, getD-each}
 use Rattle.queue.proofs.RootLaws.{sifted-more}
 use Rattle.memory.specs.Entries.{slotAt, queued}
 use Rattle.queue.specs.Contracts.Order.{Sifted}
@@ -60,11 +58,8 @@ member-of s xs ys most there = counted-some s ys (omega (arith, some-counted s x
 module _ (v f : ℕ) where
   -- ---- the first n of the order
 
-  pub queued-next : (g : ℕ → ℕ) (w : List ℕ) (n : ℕ) → sum g (queued v f w (suc n)) ≡ sum g (queued v f w n) + g (slotAt v f w n)
-  queued-next g w n = rw (add-one n) at (pop-laws.queued-next v f w g n)
-
   pub queued-length : (w : List ℕ) (n : ℕ) → length (queued v f w n) ≡ n
-  queued-length w n = length-map (below n) (slotAt v f w) ∙ length-below n
+  queued-length w n = length-each (slotAt v f w) n
 
   -- what stands in one of the n places is queued, and what is queued stands in one
   pub place-queued : (w : List ℕ) {i n : ℕ} → i < n → isQueued v f w n (slotAt v f w i) ≡ true

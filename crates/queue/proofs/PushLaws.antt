@@ -2,7 +2,6 @@
 -- Assumes nothing.
 use Prim.Native.Nat.{ℕ, _+_, _*_, _-_, _/_, _≤_, _<_}
 use native.Mathlib.Nat.{le-refl, le-of-eq}
-use native.Mathlib.Numerals.{add-one}
 use native.Mathlib.Omega.{arith}
 use mathlib.Core.Path.{_≡_, sym, ap, ap₂, subst, _∙_}
 use mathlib.Core.Logic.{_≢_}
@@ -25,10 +24,11 @@ use Rattle.memory.specs.Entries.{pairAt, slotAt, queued, costIn, stamp, keepSta
 use Rattle.queue.specs.Contracts.Ranks.{rankIn, rankAt, HeapFrom}
 use Rattle.queue.specs.Contracts.Order.{Slotted, Sifted}
 use Rattle.queue.specs.State.{isCurrent, isQueued, openIn}
-use Rattle.queue.specs.Contracts.Queued.{Queue, Named, Kept}
+use Rattle.queue.specs.Contracts.Queued.{Queue, QueueNamed, Kept}
 use Rattle.queue.specs.Contracts.Changes.{Pushed}
 use Rattle.queue.specs.Contracts.Pushing.{RoomMade, EntryPut}
-use Rattle.queue.proofs.OrderLaws.{sum-members, queued-next, place-queued, queued-slot, sifted-sums}
+use Rattle.queue.proofs.OrderLaws.{sum-members, place-queued, queued-slot, sifted-sums}
+use Rattle.queue.proofs.RootLaws.{queued-next}
 use Rattle.queue.proofs.EntryLaws.{weighed, open-sum, order-moved, room-but}
 use Rattle.queue.proofs.PushLawsSlots.{one-of-more, slots-below, other-slot}
 use Rattle.queue.proofs.MovedLaws.{holds-slot, pair-moved}
@@ -124,7 +124,7 @@ kept-all each = record {
 -- ---- room made, the entry written, its slot sifted up
 
 module _ {v f n keep remove count s : ℕ} {cost : Float} {place : Point} {w w₁ w₂ w₃ : List ℕ} {p q p' q' : List Float}
-    (queue : Queue v f w q n) (named : Named v f w n) (long : placesTo v f ≤ length p) (points : (keep < v) × (remove < v))
+    (queue : Queue v f w q n) (named : QueueNamed v f w n) (long : placesTo v f ≤ length p) (points : (keep < v) × (remove < v))
     (made : RoomMade v f w q n w₁ count) (is-slot : s ≡ slotAt v f w₁ count) (put : EntryPut v f w₁ p q s keep remove cost place w₂ p' q')
     (sifted : Sifted v f (count + 1) w₂ w₃) where
   inside : s < 3 * f
@@ -183,8 +183,7 @@ module _ {v f n keep remove count s : ℕ} {cost : Float} {place : Point} {w w�
   open-more g =
       open-sum v f w₃ (count + 1) g
       ∙ same-slots .sums (weighed v f w₃ g)
-      ∙ ap (λ (m : ℕ). sum (weighed v f w₃ g) (queued v f w₁ m)) (add-one count)
-      ∙ queued-next v f (weighed v f w₃ g) w₁ count
+      ∙ queued-next v f w₁ (weighed v f w₃ g) count
       ∙ ap₂ _+_
       (sum-members (weighed v f w₃ g) (weighed v f w₁ g) (queued v f w₁ count) (weight-kept g)
       ∙ sym (open-sum v f w₁ count g)

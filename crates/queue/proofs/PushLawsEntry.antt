@@ -21,7 +21,7 @@ use Rattle.lists.specs.Frames.{But, FloatsBut}
 use Rattle.meaning.specs.Input.{pointAt}
 use Rattle.memory.specs.Points.{quadricAt, withPoint, pointParts}
 use Rattle.lists.proofs.StoredLaws.{stored-other}
-use Rattle.memory.proofs.PointLaws.{point-stored, point-other, point-length, point-rest, quadric-same}
+use Rattle.memory.proofs.PointLaws.{point-stored, quadric-same}
 use Rattle.memory.specs.Entries.{pairAt, slotAt, costIn, stamp, keepStamp, removeStamp, entryPlace}
 use Rattle.openpairs.proofs.OpenLaws.{pushed-but, pushed-here}
 use Rattle.queue.specs.Contracts.Ranks.{rankIn}
@@ -181,9 +181,9 @@ module _ {v f s keep remove : ℕ} {cost : Float} {place : Point} {w w' : List �
   places-but =
       let end : 3 * (v + 3 * f) ≡ placesTo v f = omega arith in
       record {
-        same-length = rw (put .places) (point-length p (v + s) place);
+        same-length = rw (put .places) (point-stored p (v + s) place .same-length);
         under = λ i l. rw (put .places) (stored-other nan (pointParts place) p (3 * (v + s)) i (λ k h. omega arith));
-        rest = rw (put .places) (rw end at (point-rest p (v + s) place (v + 3 * f) (omega arith)));
+        rest = rw (put .places) (rw end at (point-stored p (v + s) place .rest (v + 3 * f) (omega arith)));
       }
 
   pub costs-but : FloatsBut (10 * v) (costsTo v f) q q'
@@ -194,20 +194,20 @@ module _ {v f s keep remove : ℕ} {cost : Float} {place : Point} {w w' : List �
   }
 
   pub here-place : placesTo v f ≤ length p → entryPlace v p' s ≡ place
-  here-place long = rw (put .places) (point-stored p (v + s) place (omega arith))
+  here-place long = rw (put .places) (point-stored p (v + s) place .back (omega arith))
 
   pub here-cost : costsTo v f ≤ length q → costIn v q' s ≡ cost
   here-cost long = rw (put .costs) (getD-set-same q (10 * v + s) cost nan (omega arith))
 
   pub other-place : (t : ℕ) → t ≢ s → entryPlace v p' t ≡ entryPlace v p t
-  other-place t other = rw (put .places) (point-other p (v + s) place (v + t) (λ e. other (omega arith)))
+  other-place t other = rw (put .places) (point-stored p (v + s) place .other (v + t) (λ e. other (omega arith)))
 
   pub other-cost : (t : ℕ) → t ≢ s → costIn v q' t ≡ costIn v q t
   other-cost t other = rw (put .costs) (getD-set-other q (10 * v + s) (10 * v + t) cost nan (λ e. other (omega arith)))
 
   -- what the points carry is as before
   pub point-kept : (x : ℕ) → x < v → pointAt p' x ≡ pointAt p x
-  point-kept x l = rw (put .places) (point-other p (v + s) place x (omega arith))
+  point-kept x l = rw (put .places) (point-stored p (v + s) place .other x (omega arith))
 
   pub quadric-kept : (x : ℕ) → x < v → quadricAt q' x ≡ quadricAt q x
   quadric-kept x l = quadric-same q' q x x (λ k h. costs-but .under (10 * x + k) (omega arith))

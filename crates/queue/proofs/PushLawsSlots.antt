@@ -1,6 +1,6 @@
 -- The order lists every slot once: it holds slots below 3F, and the slot in the place past the queued ones is free.
 -- Assumes nothing.
-use Prim.Native.Nat.{ℕ, suc, _+_, _*_, _≤_, _<_}
+use Prim.Native.Nat.{ℕ, _+_, _*_, _≤_, _<_}
 use native.Mathlib.Nat.{eq-or-lt-of-le}
 use native.Mathlib.Omega.{arith}
 use mathlib.Core.Path.{_≡_, sym, ap, subst, _∙_}
@@ -16,7 +16,8 @@ use Rattle.mesh.proofs.AroundLaws.{sum-slots}
 use Rattle.memory.specs.Entries.{slotAt, queued}
 use Rattle.queue.specs.State.{isQueued}
 use Rattle.queue.specs.Contracts.Queued.{Queue}
-use Rattle.queue.proofs.OrderLaws.{every-members, some-counted, queued-next, place-queued, queued-place, queued-slot}
+use Rattle.queue.proofs.OrderLaws.{every-members, some-counted, place-queued, queued-place, queued-slot}
+use Rattle.queue.proofs.RootLaws.{queued-next}
 use Rattle.memory.specs.Layout.{orderFrom}
 
 -- of one more, a queued slot is the new one or was queued
@@ -43,9 +44,9 @@ module _ {v f : ℕ} {w : List ℕ} {q : List Float} {n : ℕ} (h : Queue v f w 
       omega (
         arith,
         some-counted s (queued v f w n) among,
-        queued-next v f weight w n,
-        sum-slots weight w (orderFrom v f) (suc n),
-        sum-partial (λ i. weight (slotAt v f w i)) (suc n) (3 * f) free,
+        queued-next v f w weight n,
+        sum-slots weight w (orderFrom v f) (n + 1),
+        sum-partial (λ i. weight (slotAt v f w i)) (n + 1) (3 * f) (omega arith),
         sum-slots weight w (orderFrom v f) (3 * f),
         h .each-once weight,
         count-below-le s (3 * f),

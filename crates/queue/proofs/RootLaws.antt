@@ -4,16 +4,14 @@ use Prim.Native.Nat.{ℕ, zero, suc, _+_, _-_, _*_, _≤_, _<_}
 use native.Mathlib.Numerals.{add-one}
 use native.Mathlib.Omega.{arith}
 use mathlib.Core.Path.{_≡_, sym, ap, ap₂, _∙_}
-use mathlib.Core.List.{List, map}
-use mathlib.Core.Bool.{Bool, true, cond}
+use mathlib.Core.List.{List}
 use lib.Dec.{ltb}
 use lib.Ieee.{Float}
 use borrow.Author.Tests.{lt-ltb}
-use Rattle.lists.specs.Lists.{sum, every, below}
+use Rattle.lists.specs.Lists.{sum, below}
 use Rattle.lists.proofs.SumLaws.{sum-map}
-use Rattle.lists.proofs.BelowLaws.{sum-below, sum-none}
+use Rattle.lists.proofs.BelowLaws.{sum-below, every-below}
 use Rattle.lists.proofs.FrameLaws.{but-widen}
-use Rattle.lists.proofs.EveryLaws.{every-counted}
 use Rattle.memory.specs.Entries.{slotAt, queued}
 use Rattle.queue.specs.Contracts.Ranks.{rankAt, HeapFrom}
 use Rattle.queue.specs.Contracts.Order.{Slotted, Sifted}
@@ -27,12 +25,6 @@ use Rattle.memory.specs.Layout.{orderFrom}
 pub queued-next : (v f : ℕ) (w : List ℕ) (g : ℕ → ℕ) (n : ℕ) → sum g (queued v f w (n + 1)) ≡ sum g (queued v f w n) + g (slotAt v f w n)
 queued-next v f w g n =
     rw (sum-map g (slotAt v f w) (below (n + 1)), sum-map g (slotAt v f w) (below n), add-one) (sum-below (λ i. g (slotAt v f w i)) n)
-
--- where each number below n passes, every one does
-every-below : (test : ℕ → Bool) (h : ℕ → ℕ) (n : ℕ) → ((k : ℕ) → k < n → test (h k) ≡ true) → every test (map h (below n)) ≡ true
-every-below test h n passes =
-    every-counted test (map h (below n))
-    (sum-map (λ x. cond (test x) 0 1) h (below n) ∙ sum-none (λ k. cond (test (h k)) 0 1) n (λ k l. rw (passes k l)))
 
 pub slotted-fewer : {v f n m : ℕ} {w : List ℕ} {q : List Float} → Slotted v f w q n → m ≤ n → Slotted v f w q m
 slotted-fewer {v} {f} {n} {m} {w} slotted fewer =

@@ -12,13 +12,14 @@ use borrow.Author.Tests.{eq-eqb, eqb-true}
 use Rattle.walk.specs.declared.Pair.{Pair}
 use Rattle.lists.specs.Lists.{sum, count, below}
 use Rattle.lists.proofs.TestLaws.{by-test}
+use Rattle.lists.proofs.CondLaws.{cond-same}
 use Rattle.lists.proofs.SumLaws.{sum-same}
 use Rattle.lists.specs.Frames.{But}
 use Rattle.lists.proofs.FrameLaws.{but-refl, but-then}
 use Rattle.memory.specs.Entries.{pairAt, slotAt, queued}
 use Rattle.queue.specs.Contracts.Ranks.{rankIn}
 use Rattle.queue.specs.State.{isCurrent, isQueued, openIn}
-use Rattle.queue.specs.Contracts.Queued.{Queue, Named, Entered}
+use Rattle.queue.specs.Contracts.Queued.{Queue, QueueNamed, EntryNamed}
 use Rattle.queue.specs.Contracts.Changes.{Fewer, Popped, TakenOff, NoneLeft}
 use Rattle.queue.proofs.SwapLaws.{rank-kept}
 use Rattle.queue.proofs.OrderLaws.{member-of, counted-some, place-queued, queued-place}
@@ -52,7 +53,7 @@ taking-none {v} {f} {w₀} {q} {n} {w} {left} none end =
     no-more (p ∷ ps) e = absurd (omega arith)
 
 module _ {v f : ℕ} {w₀ : List ℕ} {q : List Float} {n : ℕ} {w : List ℕ} {left : ℕ} {w' : List ℕ} {s : ℕ}
-    (start : Queue v f w₀ q n) (named : Named v f w₀ n) (before : Taking v f w₀ q n w left) (popped : Popped v f w q left w' s) where
+    (start : Queue v f w₀ q n) (named : QueueNamed v f w₀ n) (before : Taking v f w₀ q n w left) (popped : Popped v f w q left w' s) where
   but-popped : But (orderFrom v f) (keepStampsFrom v f) w₀ w'
   but-popped = but-then (before .but) (popped .but)
 
@@ -66,10 +67,10 @@ module _ {v f : ℕ} {w₀ : List ℕ} {q : List Float} {n : ℕ} {w : List ℕ}
       let itself : _≡_ {A = ℕ} (cond (eqb s s) 1 0) 1 = rw (eq-eqb s s refl) in
       before .fewer s (counted-some s (queued v f w left) (omega (arith, popped .sums (λ y. cond (eqb s y) 1 0))))
 
-  pub popped-entered : Entered v f w₀ s
+  pub popped-entered : EntryNamed v f w₀ s
   popped-entered = queue-entered start named s was-queued
 
-  pub popped-kept : Entered v f w' s
+  pub popped-kept : EntryNamed v f w' s
   popped-kept = entered-moved (order-moved v f but-popped) popped-entered
 
   -- whether it is current is as before
@@ -93,16 +94,12 @@ module _ {v f : ℕ} {w₀ : List ℕ} {q : List Float} {n : ℕ} {w : List ℕ}
   current-queued x current there =
       let one : ℕ → ℕ = λ y. cond (eqb x y) 1 0 in
       let same : (y : ℕ) → ifCurrent v f w₀ one y ≡ one y =
-      λ y. by-test (eqb x y) (λ e. rw (e, ← eqb-true x y e, current)) (λ e. rw e (nothing (isCurrent v f w₀ y))) in
+      λ y. by-test (eqb x y) (λ e. rw (e, ← eqb-true x y e, current)) (λ e. rw e (cond-same (isCurrent v f w₀ y) 0)) in
       let counts : count (eqb x) (queued v f w left) ≡ count (eqb x) (queued v f w₀ n) =
       sym (sum-same (ifCurrent v f w₀ one) one same (queued v f w left))
       ∙ before .currents one
       ∙ sum-same (ifCurrent v f w₀ one) one same (queued v f w₀ n) in
       member-of x (queued v f w₀ n) (queued v f w left) (omega arith) there
-    where
-      nothing : (b : Bool) → _≡_ {A = ℕ} (cond b 0 0) 0
-      nothing true = refl
-      nothing false = refl
 
   popped-least : (i : ℕ) → i < n → isCurrent v f w₀ (slotAt v f w₀ i) ≡ true → rankIn v f w₀ q s ≤ rankIn v f w₀ q (slotAt v f w₀ i)
   popped-least i inside current =

@@ -1,7 +1,6 @@
 -- The old entries are thrown out: one pass puts the current ones first, and these are made a heap.
 -- Assumes nothing.
 use Prim.Native.Nat.{ℕ, _+_, _*_, _≤_, _<_}
-use native.Mathlib.Numerals.{add-one}
 use native.Mathlib.Omega.{arith}
 use mathlib.Core.Path.{_≡_, refl, sym, ap, ap₂, subst, _∙_}
 use mathlib.Core.List.{List}
@@ -17,10 +16,11 @@ use Rattle.memory.specs.Entries.{pairAt, slotAt, queued}
 use Rattle.queue.specs.Contracts.Ranks.{HeapFrom}
 use Rattle.queue.specs.Contracts.Order.{Slotted, Sifted}
 use Rattle.queue.specs.State.{isCurrent}
-use Rattle.queue.specs.Contracts.Queued.{Queue, Named, Entered}
+use Rattle.queue.specs.Contracts.Queued.{Queue, QueueNamed, EntryNamed}
 use Rattle.queue.specs.Contracts.Changes.{Fewer, CurrentFirst, ThrownOut}
 use Rattle.queue.proofs.SwapLaws.{swapped, swapped-slots, swapped-sifted, sifted-none, sifted-then}
-use Rattle.queue.proofs.OrderLaws.{member-of, queued-next, queued-length, queued-agree}
+use Rattle.queue.proofs.OrderLaws.{member-of, queued-length, queued-agree}
+use Rattle.queue.proofs.RootLaws.{queued-next}
 use Rattle.queue.proofs.EntryLaws.{weighed, ifCurrent, open-sum, open-length, open-sum-kept, order-moved, queue-entered, room-but}
 use Rattle.queue.proofs.MovedLaws.{current-same, entered-moved}
 use Rattle.queue.proofs.PopLaws.{sifted-order, sifted-once, first-slotted}
@@ -49,15 +49,15 @@ gathering-all {v} {f} {w₀} {n} {w} {kept} e end =
     }
 
 module _ {v f : ℕ} {w₀ : List ℕ} {n : ℕ} {w : List ℕ} {kept i : ℕ} (few : n ≤ 3 * f) (inside : i < n)
-    (entered : (j : ℕ) → j < n → Entered v f w₀ (slotAt v f w₀ j)) (before : Gathering v f w₀ n w kept i) {s : ℕ} (here : s ≡ slotAt v f w i) where
+    (entered : (j : ℕ) → j < n → EntryNamed v f w₀ (slotAt v f w₀ j)) (before : Gathering v f w₀ n w kept i) {s : ℕ} (here : s ≡ slotAt v f w i) where
   -- the entry that a turn looks at
   same-slot : s ≡ slotAt v f w₀ i
   same-slot = here ∙ before .ahead i (omega arith) inside
 
-  looked-entered : Entered v f w₀ s
-  looked-entered = subst (λ (x : ℕ). Entered v f w₀ x) (sym same-slot) (entered i inside)
+  looked-entered : EntryNamed v f w₀ s
+  looked-entered = subst (λ (x : ℕ). EntryNamed v f w₀ x) (sym same-slot) (entered i inside)
 
-  pub turn-entered : Entered v f w s
+  pub turn-entered : EntryNamed v f w s
   turn-entered = entered-moved (order-moved v f (sifted-order few (before .sifted))) looked-entered
 
   looked-current : {b : Bool} → b ≡ isCurrent v f w s → isCurrent v f w₀ s ≡ b
@@ -69,8 +69,7 @@ module _ {v f : ℕ} {w₀ : List ℕ} {n : ℕ} {w : List ℕ} {kept i : ℕ} (
   looked {b} e g =
       let weight : cond b (g s) 0 ≡ ifCurrent v f w₀ g (slotAt v f w₀ i) = rw (← e) (ap (ifCurrent v f w₀ g) same-slot) in
       ap₂ _+_ (before .done g) weight
-      ∙ sym (queued-next v f (ifCurrent v f w₀ g) w₀ i)
-      ∙ ap (λ (k : ℕ). sum (ifCurrent v f w₀ g) (queued v f w₀ k)) (sym (add-one i))
+      ∙ sym (queued-next v f w₀ (ifCurrent v f w₀ g) i)
 
   -- it is current, and comes to the others
   pub gathering-kept : {b : Bool} {w' : List ℕ} → Room v f w → b ≡ true → b ≡ isCurrent v f w s → w' ≡ swapped v f w i kept →
@@ -83,8 +82,7 @@ module _ {v f : ℕ} {w₀ : List ℕ} {n : ℕ} {w : List ℕ} {kept i : ℕ} (
         sifted = sifted-then (before .sifted) (swapped-sifted room n i kept few inside (omega arith) e);
         ahead = λ j l m. rw e (there .other j m (omega arith) (omega arith) ∙ before .ahead j (omega arith) m);
         done = λ g.
-            ap (λ (k : ℕ). sum g (queued v f w' k)) (add-one kept)
-            ∙ queued-next v f g w' kept
+            queued-next v f w' g kept
             ∙ ap₂ _+_
             (queued-agree v f g w w' kept (λ j l. rw e (there .other j (omega arith) (omega arith) (omega arith))))
             (ap g more)
@@ -112,7 +110,7 @@ less : (b : Bool) (k : ℕ) → cond b k 0 ≤ k
 less true k = omega arith
 less false k = omega arith
 
-module _ {v f : ℕ} {w : List ℕ} {q : List Float} {n : ℕ} {w' : List ℕ} {r : ℕ} (queue : Queue v f w q n) (named : Named v f w n)
+module _ {v f : ℕ} {w : List ℕ} {q : List Float} {n : ℕ} {w' : List ℕ} {r : ℕ} (queue : Queue v f w q n) (named : QueueNamed v f w n)
     (first : CurrentFirst v f w n w' r) where
   pub kept-slotted : Slotted v f w' q r
   kept-slotted = first-slotted queue (first .sifted) (first .few)

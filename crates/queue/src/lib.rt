@@ -11,7 +11,7 @@ ghost use Rattle.memory.specs.Memory.{Room};
 ghost use Rattle.memory.specs.Points.{vertexAt};
 ghost use Rattle.memory.specs.Entries.{pairAt, slotAt, stamp};
 ghost use Rattle.queue.specs.State.{isCurrent, openIn};
-ghost use Rattle.queue.specs.Contracts.Queued.{Queue, Named, Entered, Kept};
+ghost use Rattle.queue.specs.Contracts.Queued.{Queue, QueueNamed, EntryNamed, Kept};
 ghost use Rattle.queue.specs.Contracts.Pushing.{RoomMade, EntryPut};
 ghost use Rattle.queue.specs.Contracts.Changes.{Emptied, Popped, TookCurrent, CurrentFirst, ThrownOut, Pushed};
 ghost use Rattle.memory.specs.Layout.{costsTo, placesTo, stampsFrom};
@@ -75,7 +75,7 @@ pub fn pop(w: &mut [u32], q: &[f64], v: usize, f: usize, n: usize) -> usize
 
 // Takes entries off the top up to the first current one.
 pub fn take_current(w: &mut [u32], q: &[f64], v: usize, f: usize, n: usize) -> Taken
-    requires { ⌜ Queue v f (now w) (now q) n ⌝ ∗ ⌜ Named v f (now w) n ⌝ }
+    requires { ⌜ Queue v f (now w) (now q) n ⌝ ∗ ⌜ QueueNamed v f (now w) n ⌝ }
     ensures { λ r. ⌜ TookCurrent v f (now (w .entry)) (now (q .entry)) n (now (w .exit)) r ⌝ }
 {
     let mut left = n;
@@ -91,7 +91,7 @@ pub fn take_current(w: &mut [u32], q: &[f64], v: usize, f: usize, n: usize) -> T
 
 // Puts the current entries first, in any order. Says how many they are.
 fn gather_current(w: &mut [u32], v: usize, f: usize, n: usize) -> usize
-    requires { ⌜ n ≤ 3 * f ⌝ ∗ ⌜ Room v f (now w) ⌝ ∗ ⌜ ((i : ℕ) → i < n → Entered v f (now w) (slotAt v f (now w) i)) ⌝ }
+    requires { ⌜ n ≤ 3 * f ⌝ ∗ ⌜ Room v f (now w) ⌝ ∗ ⌜ ((i : ℕ) → i < n → EntryNamed v f (now w) (slotAt v f (now w) i)) ⌝ }
     ensures { λ r. ⌜ CurrentFirst v f (now (w .entry)) n (now (w .exit)) r ⌝ }
 {
     let mut kept = 0;
@@ -107,7 +107,7 @@ fn gather_current(w: &mut [u32], v: usize, f: usize, n: usize) -> usize
 
 // Throws the old entries out. Says how many stay.
 pub fn throw_out(w: &mut [u32], q: &[f64], v: usize, f: usize, n: usize) -> usize
-    requires { ⌜ Queue v f (now w) (now q) n ⌝ ∗ ⌜ Named v f (now w) n ⌝ }
+    requires { ⌜ Queue v f (now w) (now q) n ⌝ ∗ ⌜ QueueNamed v f (now w) n ⌝ }
     ensures { λ r. ⌜ ThrownOut v f (now (w .entry)) (now (q .entry)) n (now (w .exit)) r ⌝ }
 {
     let kept = gather_current(w, v, f, n);
@@ -117,7 +117,7 @@ pub fn throw_out(w: &mut [u32], q: &[f64], v: usize, f: usize, n: usize) -> usiz
 
 // Makes room for an entry: a full queue throws its old entries out. Says how many there are.
 fn make_room(w: &mut [u32], q: &[f64], v: usize, f: usize, n: usize) -> usize
-    requires { ⌜ Queue v f (now w) (now q) n ⌝ ∗ ⌜ Named v f (now w) n ⌝ ∗ ⌜ length (openIn v f (now w) n) < 3 * f ⌝ }
+    requires { ⌜ Queue v f (now w) (now q) n ⌝ ∗ ⌜ QueueNamed v f (now w) n ⌝ ∗ ⌜ length (openIn v f (now w) n) < 3 * f ⌝ }
     ensures { λ r. ⌜ RoomMade v f (now (w .entry)) (now (q .entry)) n (now (w .exit)) r ⌝ }
 {
     if n == 3 * f {
@@ -160,7 +160,7 @@ pub fn push(
     fold: Fold,
     cost: f64,
 ) -> usize
-    requires { ⌜ Queue v f (now w) (now q) n ⌝ ∗ ⌜ Named v f (now w) n ⌝ ∗ ⌜ placesTo v f ≤ length (now p) ⌝ ∗ ⌜ (fold .keep < v) × (fold .remove < v) ⌝ ∗ ⌜ length (openIn v f (now w) n) < 3 * f ⌝ }
+    requires { ⌜ Queue v f (now w) (now q) n ⌝ ∗ ⌜ QueueNamed v f (now w) n ⌝ ∗ ⌜ placesTo v f ≤ length (now p) ⌝ ∗ ⌜ (fold .keep < v) × (fold .remove < v) ⌝ ∗ ⌜ length (openIn v f (now w) n) < 3 * f ⌝ }
     ensures { λ r. ⌜ Pushed v f (now (w .entry)) (now (p .entry)) (now (q .entry)) n (fold .keep) (fold .remove) (now (w .exit)) (now (p .exit)) (now (q .exit)) r ⌝ ∗ ⌜ ((bound : Float) → Kept v f (now (w .entry)) (now (p .entry)) (now (q .entry)) n bound → cost ≡ pairCost bound (vertexAt v f (now (w .entry)) (now (p .entry)) (now (q .entry)) (fold .keep)) (vertexAt v f (now (w .entry)) (now (p .entry)) (now (q .entry)) (fold .remove)) → fold .place ≡ pairPlace bound (vertexAt v f (now (w .entry)) (now (p .entry)) (now (q .entry)) (fold .keep)) (vertexAt v f (now (w .entry)) (now (p .entry)) (now (q .entry)) (fold .remove)) → Kept v f (now (w .exit)) (now (p .exit)) (now (q .exit)) r bound) ⌝ }
 {
     let count = make_room(w, q, v, f, n);

@@ -20,7 +20,7 @@ use Rattle.mesh.specs.Contracts.Chains.{Tidy}
 use Rattle.mesh.specs.Contracts.Around.{Gathered, Collected, Marked, Cleared}
 use Rattle.ring.specs.Contracts.Marking.{Around, single, somePoint}
 use Rattle.lists.proofs.FrameLaws.{but-widen}
-use Rattle.mesh.proofs.FaceCorners.{Points, points}
+use Rattle.walk.proofs.FaceLaws.{Corners, corners, at-corner}
 use Rattle.mesh.proofs.AroundLaws.{live-faces-but}
 use Rattle.ring.proofs.SlotLaws.{proper-but}
 use Rattle.ring.proofs.LiveLaws.{some-gathered}
@@ -31,7 +31,7 @@ use Rattle.memory.specs.Layout.{farFrom, nearFrom}
 -- ---- a point of a face
 
 -- a point that passes is one of the three
-found-point : (v : ℕ) (test : ℕ → Bool) (p : Face) → Points v p → somePoint test p ≡ true → (u : ℕ) × (u < v) × (test u ≡ true)
+found-point : (v : ℕ) (test : ℕ → Bool) (p : Face) → Corners v p → somePoint test p ≡ true → (u : ℕ) × (u < v) × (test u ≡ true)
 found-point v test p q h =
     by-test (test (p .a))
     (λ a. (p .a, q .a-below, a))
@@ -40,12 +40,10 @@ found-point v test p q h =
 -- a point that a face holds is one of the three
 held-point : (test : ℕ → Bool) (u : ℕ) (p : Face) → test u ≡ true → holds u p ≡ true → somePoint test p ≡ true
 held-point test u p pass h =
-    by-test (eqb u (p .a))
-    (λ a. or-inl _ (test (p .c)) (or-inl _ (test (p .b)) (rw (eqb-true u (p .a) a) at pass)))
-    (λ a.
-    by-test (eqb u (p .b))
-    (λ b. or-inl _ (test (p .c)) (or-inr (test (p .a)) _ (rw (eqb-true u (p .b) b) at pass)))
-    (λ b. or-inr (test (p .a) || test (p .b)) _ (rw (eqb-true u (p .c) (rw (a, b) at h)) at pass)))
+    at-corner u p h
+    (λ a. or-inl _ (test (p .c)) (or-inl _ (test (p .b)) (rw a at pass)))
+    (λ b. or-inl _ (test (p .c)) (or-inr (test (p .a)) _ (rw b at pass)))
+    (λ c. or-inr (test (p .a) || test (p .b)) _ (rw c at pass))
 
 -- the points of a face that was read, tried one after another
 module _ (test : ℕ → Bool) {p q : Face} (read : p ≡ q) {a : Bool} (first : a ≡ test (p .a)) where
@@ -76,7 +74,7 @@ module _ {v f : ℕ} {w : List ℕ} {x base n : ℕ} (all : Proper v f w) (h : G
       let (k, live, found) = every-some (λ k. ltb k f && liveAt f w x k) (λ k. somePoint (single v f w x) (faceAt w k)) _ (h .slots-live) e in
       let small : k < f = ltb-true k f (and-elim-left (ltb k f) (liveAt f w x k) live) in
       let alive : lives f w k ≡ true = and-elim-left (lives f w k) _ (and-elim-right (ltb k f) (liveAt f w x k) live) in
-      let (u, l, pass) = found-point v (single v f w x) (faceAt w k) (points v (faceAt w k) (all k small alive)) found in
+      let (u, l, pass) = found-point v (single v f w x) (faceAt w k) (corners v (faceAt w k) (all k small alive)) found in
       some-below (borderEdge (liveFaces f w) x) v u l (sym (edge u l) ∙ pass)
 
   -- a border edge is a single mark

@@ -13,6 +13,7 @@ use Rattle.walk.specs.declared.Face.{Face}
 use Rattle.lists.specs.Lists.{some, below}
 use Rattle.walk.specs.Faces.{holds, shared, neighbour, common, faceAt}
 use Rattle.lists.proofs.TestLaws.{by-test}
+use Rattle.lists.proofs.CondLaws.{cond-same}
 use Rattle.lists.proofs.SumLaws.{sum-add}
 use Rattle.lists.proofs.BelowLaws.{sum-pick, length-below, sum-same-below}
 use Rattle.memory.specs.Memory.{liveFaces, mark}
@@ -136,10 +137,6 @@ split false true q s = rw (and-false (ltb 0 s))
 split false false true s = rw (and-true (ltb 0 s)) (sym (add-zero _))
 split false false false s = rw (and-false (ltb 0 s)) (sym (zero-add _))
 
-stays-unmarked : (b : Bool) → _≡_ {A = ℕ} (cond b 0 0) 0
-stays-unmarked true = refl
-stays-unmarked false = refl
-
 -- the first point's faces marked, the second's counted, the first's cleared
 pub common-known : {v f : ℕ} {w w₁ w₂ w₃ : List ℕ} {keep remove near n far m r : ℕ} → Tidy v f w →
     Around v f w keep near n → Around v f w remove far m → Marked v f w near n w₁ →
@@ -162,5 +159,5 @@ common-known {v} {f} {w} {w₁} {w₂} {w₃} {keep} {remove} {near} {n} {far} {
             (split (eqb keep u) (eqb remove u) (ltb 0 (shared (liveFaces f w) remove u)) (shared (liveFaces f w) keep u))),
         sum-add both left (below v),
       ),
-      cleared-back t a marking (counted .remarked) (λ u. stays-unmarked (heldIn w₁ far m u && other keep remove u)) cleared,
+      cleared-back t a marking (counted .remarked) (λ u. cond-same (heldIn w₁ far m u && other keep remove u) 0) cleared,
     )

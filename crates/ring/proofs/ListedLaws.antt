@@ -6,6 +6,7 @@ use native.Mathlib.Omega.{arith}
 use mathlib.Core.Path.{_≡_, refl, sym, subst, ap, ap₂, _∙_}
 use mathlib.Core.List.{List}
 use mathlib.Core.Bool.{Bool, true, false, not, _&&_, _||_, cond}
+use mathlib.Mathlib.Data.Bool.Basic.{and-elim-left}
 use lib.Dec.{ltb, eqb}
 use lib.ListN.{getD}
 use borrow.Author.Tests.{ltb-true, ltb-false, lt-ltb}
@@ -13,7 +14,7 @@ use Rattle.walk.specs.declared.Face.{Face}
 use Rattle.lists.specs.Lists.{sum, those, below, stretch}
 use Rattle.walk.specs.Faces.{holds, proper, faceAt}
 use Rattle.lists.proofs.EveryLaws.{some-implies, every-counted}
-use Rattle.lists.proofs.TestLaws.{by-test, clash, left-of, false-of}
+use Rattle.lists.proofs.TestLaws.{by-test, clash, false-of}
 use Rattle.lists.proofs.SumLaws.{sum-those, sum-length}
 use Rattle.memory.specs.Memory.{liveFaces, mark, Room, Unmarked, aroundIn}
 use Rattle.mesh.specs.Contracts.Chains.{Tidy}
@@ -23,7 +24,7 @@ use Rattle.memory.proofs.FrameLaws.{lives-but, face-but}
 use Rattle.mesh.proofs.AroundLaws.{live-faces-but}
 use Rattle.ring.specs.Contracts.Listing.{isAround, AroundListed}
 use Rattle.ring.specs.Contracts.Wanting.{Near, found, wanted, Marks}
-use Rattle.ring.specs.Contracts.Taking.{marked, Framed, Taken, Ready}
+use Rattle.ring.specs.Contracts.Taking.{marked, Framed, Taken, MarksReady}
 use Rattle.ring.proofs.FrameLaws.{framed-then, framed-marks, framed-list, framed-room, face-listed}
 use Rattle.ring.proofs.WantedLaws.{found-none, found-next}
 use Rattle.ring.proofs.TakeLaws.{counted, marked-sum, listed-none, listed-count}
@@ -86,7 +87,7 @@ module _ {v f : ℕ} {w₀ w₁ : List ℕ} {x count : ℕ} (tidy : Tidy v f w�
     none-asked : (u : ℕ) → found v f w₁ count (holds u) ≡ false → found v f w₁ count (asked rising x u) ≡ false
     none-asked u none =
         false-of (found v f w₁ count (asked rising x u))
-        (λ t. clash (some-implies _ _ (λ k e. left-of (holds u (faceAt w₁ k)) (wanted rising x u (faceAt w₁ k)) e) (stretch w₁ (nearFrom v f) count) t) none)
+        (λ t. clash (some-implies _ _ (λ k e. and-elim-left (holds u (faceAt w₁ k)) (wanted rising x u (faceAt w₁ k)) e) (stretch w₁ (nearFrom v f) count) t) none)
 
     -- these are the points around x
     marked-around : (g : ℕ → ℕ) → sum g (marked v f w₂) ≡ sum g (those (isAround rising (liveFaces f w₀) x) (below v))
@@ -104,7 +105,7 @@ module _ {v f : ℕ} {w₀ w₁ : List ℕ} {x count : ℕ} (tidy : Tidy v f w�
         ∙ ap (λ (fs : List Face). sum g (those (isAround rising fs x) (below v))) (live-faces-but f (collected .but) (omega arith))
 
     -- there is a place for each of them
-    pub marked-ready : Ready v f w₂ 0
+    pub marked-ready : MarksReady v f w₂ 0
     marked-ready =
         record {
           room = framed-room (framed-marks (was-marked .but)) gathered-room;

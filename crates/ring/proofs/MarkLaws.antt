@@ -6,19 +6,19 @@ use native.Mathlib.Omega.{arith}
 use mathlib.Core.Path.{_≡_, refl, sym, ap, subst, _∙_}
 use mathlib.Core.Logic.{_≢_}
 use mathlib.Core.List.{List}
-use mathlib.Core.Bool.{true, false, _&&_, _||_, cond}
+use mathlib.Core.Bool.{true, _||_, cond}
 use lib.Dec.{ltb, eqb}
 use lib.ListN.{getD, set}
 use lib.Seq.{getD-set-same, getD-set-other, ext-getD}
-use borrow.Author.Tests.{ne-eqb, eqb-true, eqb-false, ltb-true, ltb-false}
+use borrow.Author.Tests.{eqb-true, eqb-false, ltb-true, ltb-false}
 use Rattle.walk.specs.declared.Face.{Face}
 use Rattle.walk.specs.Faces.{holds, proper}
 use Rattle.lists.proofs.TestLaws.{by-test, flag-le}
 use Rattle.memory.specs.Memory.{mark, Room}
 use Rattle.ring.specs.Contracts.Marking.{Remarked}
-use Rattle.lists.proofs.CondLaws.{cond-either, cond-three}
+use Rattle.lists.proofs.CondLaws.{cond-either}
 use Rattle.lists.proofs.FrameLaws.{but-refl, but-then, but-set}
-use Rattle.mesh.proofs.FaceCorners.{Points, points}
+use Rattle.walk.proofs.FaceLaws.{Corners, corners, held-once}
 use Rattle.memory.specs.Layout.{marksFrom, stampsFrom}
 
 module _ {v f : ℕ} where
@@ -83,22 +83,9 @@ module _ {v f : ℕ} where
 
 -- ---- the points of a face
 
--- one number is not two others
-not-two : (p x y : ℕ) → x ≢ y → (eqb p x && eqb p y) ≡ false
-not-two p x y apart =
-    by-test (eqb p x) (λ e. rw e (ne-eqb p y (λ q. apart (sym (eqb-true p x e) ∙ q)))) (λ e. rw e)
-
--- 1 for each corner at u is 1 for a proper face that holds u
-corners-once : (v u : ℕ) (p : Face) → proper v p ≡ true →
-    cond (eqb u (p .a)) 1 0 + cond (eqb u (p .b)) 1 0 + cond (eqb u (p .c)) 1 0 ≡ cond (holds u p) 1 0
-corners-once v u p h =
-    let q : Points v p = points v p h in
-    cond-three (eqb u (p .a)) (eqb u (p .b)) (eqb u (p .c)) 1
-    (not-two u (p .a) (p .b) (q .a-b)) (not-two u (p .b) (p .c) (q .b-c)) (not-two u (p .c) (p .a) (q .c-a))
-
--- the points of a face that was read
-pub points-read : (v : ℕ) {p q : Face} → p ≡ q → proper v q ≡ true → Points v p
-points-read v {p} read h = points v p (ap (proper v) read ∙ h)
+-- the corners of a face that was read
+pub corners-read : (v : ℕ) {p q : Face} → p ≡ q → proper v q ≡ true → Corners v p
+corners-read v {p} read h = corners v p (ap (proper v) read ∙ h)
 
 module _ {v f : ℕ} {w w₁ w₂ w₃ : List ℕ} {p : Face} (q : Face) (read : p ≡ q) where
   -- 1 more at each point
@@ -109,7 +96,7 @@ module _ {v f : ℕ} {w w₁ w₂ w₃ : List ℕ} {p : Face} (q : Face) (read :
       Remarked v f (λ u m. m + cond (holds u q) 1 0) w w₃
   face-marked h a b c =
       subst (λ (q : Face). Remarked v f (λ u m. m + cond (holds u q) 1 0) w w₃) read
-      (remarked-as (λ u l. omega (arith, corners-once v u p (ap (proper v) read ∙ h))) (remarked-then (remarked-then a b) c))
+      (remarked-as (λ u l. omega (arith, held-once v p u 1 (ap (proper v) read ∙ h))) (remarked-then (remarked-then a b) c))
 
   -- 0 at each point
   pub face-cleared :
@@ -121,6 +108,6 @@ module _ {v f : ℕ} {w w₁ w₂ w₃ : List ℕ} {p : Face} (q : Face) (read :
       subst (λ (q : Face). Remarked v f (λ u m. cond (holds u q) 0 m) w w₃) read
       (remarked-as
       (λ u l.
-      ap (cond (eqb u (p .c)) 0) (cond-either (eqb u (p .a)) (eqb u (p .b)) (mark v f w u))
-      ∙ cond-either (eqb u (p .a) || eqb u (p .b)) (eqb u (p .c)) (mark v f w u))
+      ap (cond (eqb u (p .c)) 0) (cond-either (eqb u (p .a)) (eqb u (p .b)) 0 (mark v f w u))
+      ∙ cond-either (eqb u (p .a) || eqb u (p .b)) (eqb u (p .c)) 0 (mark v f w u))
       (remarked-then (remarked-then a b) c))

@@ -4,13 +4,14 @@ use Prim.Native.Nat.{ℕ, _<_}
 use mathlib.Core.Path.{_≡_, refl, sym, ap, ap₂, _∙_}
 use mathlib.Core.List.{List, [], _∷_}
 use mathlib.Core.Bool.{Bool, true, false, not, _&&_, _||_, cond, and-assoc, and-comm, and-true, and-false}
+use mathlib.Mathlib.Data.Bool.Basic.{and-elim-left, and-elim-right}
 use lib.Dec.{ltb, eqb}
 use borrow.Author.Tests.{ltb-true}
 use Rattle.walk.specs.declared.Face.{Face}
 use Rattle.lists.specs.Lists.{some, stretch}
 use Rattle.walk.specs.Faces.{holds, both, neighbour, runs, faceAt}
 use Rattle.walk.specs.Pairs.{pairOf, rises}
-use Rattle.lists.proofs.TestLaws.{by-test, left-of, right-of}
+use Rattle.lists.proofs.TestLaws.{by-test}
 use Rattle.lists.proofs.SumLaws.{sum-same}
 use Rattle.lists.proofs.EveryLaws.{some-count}
 use Rattle.walk.proofs.FaceLaws.{runs-both}
@@ -39,8 +40,8 @@ pub near-gathered : {v f : ℕ} {w : List ℕ} {x n : ℕ} → Proper v f w → 
 near-gathered {v} {f} {w} {x} {n} good gathered i l =
     let k = nearAt v f w i in
     let passed : (ltb k f && liveAt f w x k) ≡ true = every-each (λ k. ltb k f && liveAt f w x k) (nearAt v f w) n (gathered .slots-live) i l in
-    let inside : k < f = ltb-true k f (left-of (ltb k f) (liveAt f w x k) passed) in
-    (inside, good k inside (left-of (lives f w k) (holds x (faceAt w k)) (right-of (ltb k f) (liveAt f w x k) passed)))
+    let inside : k < f = ltb-true k f (and-elim-left (ltb k f) (liveAt f w x k) passed) in
+    (inside, good k inside (and-elim-left (lives f w k) (holds x (faceAt w k)) (and-elim-right (ltb k f) (liveAt f w x k) passed)))
 
 -- ---- what is asked of the faces around a point
 
@@ -71,7 +72,7 @@ wanted-neighbour faces x u =
 wanted-rises : (faces : List Face) (x u : ℕ) → some (λ face. holds x face && (holds u face && wanted true x u face)) faces ≡ rises faces (pairOf x u)
 wanted-rises faces x u =
     some-same _ _
-    (λ face. and-implied (holds x face) (holds u face) (ltb x u && runs x u face) (λ t. runs-both x u face (right-of (ltb x u) (runs x u face) t))) faces
+    (λ face. and-implied (holds x face) (holds u face) (ltb x u && runs x u face) (λ t. runs-both x u face (and-elim-right (ltb x u) (runs x u face) t))) faces
     ∙ some-with (ltb x u) (runs x u) faces
 
 -- either way: the points around x

@@ -10,13 +10,13 @@ use mathlib.Core.List.{List, [], _∷_, _++_, map-append}
 use mathlib.Core.Bool.{Bool, true, _&&_, _||_, or-false}
 use mathlib.Mathlib.Data.Bool.Basic.{and-elim-left, and-elim-right}
 use lib.Dec.{ltb}
-use lib.ListN.{length, getD, length-map, List·getD-map}
+use lib.ListN.{length, getD}
 use borrow.Author.Tests.{ltb-true}
 use Rattle.lists.specs.Lists.{sum, some, every, below, stretch}
 use Rattle.walk.specs.Faces.{holds, proper, faceAt}
 use Rattle.lists.proofs.SumLaws.{sum-append}
 use Rattle.lists.proofs.EveryLaws.{some-append, every-at, some-from}
-use Rattle.lists.proofs.BelowLaws.{length-below, getD-below, map-same-below, every-implies-below}
+use Rattle.lists.proofs.BelowLaws.{length-each, getD-each, map-same-below, every-implies-below}
 use Rattle.memory.specs.Memory.{lives, Proper, liveAt}
 use Rattle.lists.specs.Frames.{But}
 use Rattle.ring.specs.Contracts.Marking.{FacesListed, Around}
@@ -48,11 +48,11 @@ some-more test w base n =
 -- ---- the slot at a place
 
 pub length-slots : (w : List ℕ) (base n : ℕ) → length (stretch w base n) ≡ n
-length-slots w base n = length-map (below n) (λ i. getD w (base + i) 0) ∙ length-below n
+length-slots w base n = length-each (λ i. getD w (base + i) 0) n
 
 module _ (test : ℕ → Bool) (w : List ℕ) (base n : ℕ) where
   slot-at : (i : ℕ) → i < n → getD (stretch w base n) i (getD w (base + 0) 0) ≡ getD w (base + i) 0
-  slot-at i l = List·getD-map (λ i. getD w (base + i) 0) (below n) i 0 ∙ ap (λ (i : ℕ). getD w (base + i) 0) (getD-below n i l)
+  slot-at i l = getD-each (λ i. getD w (base + i) 0) n i (getD w (base + 0) 0) l
 
   pub every-slot : every test (stretch w base n) ≡ true → (i : ℕ) → i < n → test (getD w (base + i) 0) ≡ true
   every-slot all i l =

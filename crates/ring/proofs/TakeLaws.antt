@@ -15,6 +15,7 @@ use Rattle.walk.specs.declared.Face.{Face}
 use Rattle.lists.specs.Lists.{sum, below}
 use Rattle.walk.specs.Faces.{holds, faceAt}
 use Rattle.lists.proofs.TestLaws.{by-test}
+use Rattle.lists.proofs.CondLaws.{cond-either}
 use Rattle.lists.proofs.SumLaws.{sum-those, sum-length, sum-add}
 use Rattle.lists.proofs.BelowLaws.{sum-below, sum-same-below, sum-single, sum-ones}
 use Rattle.memory.specs.Memory.{mark, Room, aroundIn, nearAt}
@@ -23,9 +24,9 @@ use Rattle.mesh.proofs.AroundLaws.{sum-slots}
 use Rattle.lists.proofs.FrameLaws.{but-set}
 use Rattle.ring.specs.Contracts.Marking.{Remarked}
 use Rattle.ring.specs.Contracts.Wanting.{found}
-use Rattle.ring.specs.Contracts.Taking.{marked, Taken, Ready}
+use Rattle.ring.specs.Contracts.Taking.{marked, Taken, MarksReady}
 use Rattle.ring.proofs.FrameLaws.{framed-refl, framed-then, framed-marks, framed-points, framed-room}
-use Rattle.ring.proofs.WantedLaws.{cond-then, found-none, found-next}
+use Rattle.ring.proofs.WantedLaws.{found-none, found-next}
 use Rattle.memory.specs.Layout.{aroundFrom, marksFrom, orderFrom}
 
 module _ (v f : ℕ) where
@@ -89,7 +90,7 @@ module _ (v f : ℕ) where
 
 -- the mark of y is taken off
 pub record Unmark (v f : ℕ) (w : List ℕ) (n y : ℕ) (w' : List ℕ) : Type 0 where
-  pub ready : Ready v f w n
+  pub ready : MarksReady v f w n
   pub within : y < v
   pub was : mark v f w y ≢ 0
   pub written : Remarked v f (λ u m. cond (eqb u y) 0 m) w w'
@@ -149,7 +150,7 @@ module _ {v f : ℕ} where
   taken-then {a} {b} {w} one two =
       record {
         frame = framed-then (one .frame) (two .frame);
-        marks = λ u l. two .marks u l ∙ ap (λ (m : ℕ). cond (b u) 0 m) (one .marks u l) ∙ cond-then (a u) (b u) 0 (mark v f w u);
+        marks = λ u l. two .marks u l ∙ ap (λ (m : ℕ). cond (b u) 0 m) (one .marks u l) ∙ cond-either (a u) (b u) 0 (mark v f w u);
         sums = λ g. two .sums g ∙ one .sums g;
       }
 
@@ -159,7 +160,7 @@ module _ {v f : ℕ} where
       record { frame = one .frame; marks = λ u l. one .marks u l ∙ ap (λ (t : Bool). cond t 0 (mark v f w u)) (same u); sums = one .sums }
 
   -- there is a place for each point that is marked still
-  pub ready-after : {which : ℕ → Bool} {w w' : List ℕ} {n n' : ℕ} → Ready v f w n → Taken v f which w n w' n' → Ready v f w' n'
+  pub ready-after : {which : ℕ → Bool} {w w' : List ℕ} {n n' : ℕ} → MarksReady v f w n → Taken v f which w n w' n' → MarksReady v f w' n'
   ready-after {which} {w} {w'} {n} {n'} ready step =
       record {
         room = framed-room (step .frame) (ready .room);

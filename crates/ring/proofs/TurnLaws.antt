@@ -81,7 +81,7 @@ cleared-more {v} {f} {w₀} {w} {w'} {base} {i} {k} next h step = record {
   marks = λ u l.
       step .marks u l
       ∙ ap (cond (holds u (faceAt w k)) 0) (h .marks u l)
-      ∙ rw (some-next next u) (cond-either (some (λ k. holds u (faceAt w₀ k)) (stretch w₀ base i)) (holds u (faceAt w k)) (mark v f w₀ u));
+      ∙ rw (some-next next u) (cond-either (some (λ k. holds u (faceAt w₀ k)) (stretch w₀ base i)) (holds u (faceAt w k)) 0 (mark v f w₀ u));
 }
 
 -- ---- looking for a face

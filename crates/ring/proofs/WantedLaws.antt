@@ -11,6 +11,7 @@ use Rattle.walk.specs.declared.Face.{Face}
 use Rattle.lists.specs.Lists.{some, below}
 use Rattle.walk.specs.Faces.{holds, faceAt}
 use Rattle.lists.proofs.TestLaws.{by-test}
+use Rattle.lists.proofs.CondLaws.{cond-either}
 use Rattle.memory.specs.Memory.{mark, Room, nearAt}
 use Rattle.ring.specs.Contracts.Wanting.{found, Marks}
 use Rattle.ring.proofs.SlotLaws.{some-more}
@@ -18,13 +19,6 @@ use Rattle.ring.proofs.MarkLaws.{remarked-none, remarked-then, remarked
 use Rattle.memory.specs.Layout.{marksFrom, nearFrom}
 
 -- ---- tests
-
--- one value, and then again where another test passes
-pub cond-then : (a b : Bool) (k m : ℕ) → cond b k (cond a k m) ≡ cond (a || b) k m
-cond-then true true k m = refl
-cond-then true false k m = refl
-cond-then false true k m = refl
-cond-then false false k m = refl
 
 -- a test at a number that is u, or at u
 at-same : (test : ℕ → Bool) (u y : ℕ) → (eqb u y && test y) ≡ (eqb u y && test u)
@@ -72,7 +66,7 @@ module _ {v f : ℕ} {w : List ℕ} where
 
   -- some, and then others
   marks-then : (a b : ℕ → Bool) {w' w'' : List ℕ} → Marks v f a w w' → Marks v f b w' w'' → Marks v f (λ u. a u || b u) w w''
-  marks-then a b one two = remarked-as (λ u l. cond-then (a u) (b u) 1 (mark v f w u)) (remarked-then one two)
+  marks-then a b one two = remarked-as (λ u l. cond-either (a u) (b u) 1 (mark v f w u)) (remarked-then one two)
 
   -- the same ones, said otherwise
   marks-as : {a b : ℕ → Bool} {w' : List ℕ} → ((u : ℕ) → a u ≡ b u) → Marks v f a w w' → Marks v f b w w'

@@ -13,7 +13,7 @@ ghost use Rattle.memory.specs.Memory.{Room, nearAt};
 ghost use Rattle.mesh.specs.Contracts.Chains.{Tidy};
 ghost use Rattle.ring.specs.Contracts.Listing.{AroundListed};
 ghost use Rattle.ring.specs.Contracts.Wanting.{Near, found, wanted, Marks};
-ghost use Rattle.ring.specs.Contracts.Taking.{Taken, Ready};
+ghost use Rattle.ring.specs.Contracts.Taking.{Taken, MarksReady};
 
 // Whether an edge of a face runs from x to y.
 fn runs(x: u32, y: u32, face: Face) -> bool
@@ -79,7 +79,7 @@ fn mark_wanted(w: &mut [u32], v: usize, f: usize, count: usize, rising: bool, x:
 
 // Takes the mark off a point that has one, and lists the point after the n that are listed. Says how many are listed.
 fn list_corner(w: &mut [u32], v: usize, f: usize, n: usize, y: u32) -> usize
-    requires { ⌜ Ready v f (now w) n ⌝ ∗ ⌜ y < v ⌝ }
+    requires { ⌜ MarksReady v f (now w) n ⌝ ∗ ⌜ y < v ⌝ }
     ensures { λ r. ⌜ Taken v f (λ u. eqb u y) (now (w .entry)) n (now (w .exit)) r ⌝ }
 {
     if memory::mark_at(w, v, f, y as usize) == 0 {
@@ -92,7 +92,7 @@ fn list_corner(w: &mut [u32], v: usize, f: usize, n: usize, y: u32) -> usize
 
 // Takes the marks off the points of a face, and lists each. Says how many are listed.
 fn list_face(w: &mut [u32], v: usize, f: usize, n: usize, face: Face) -> usize
-    requires { ⌜ Ready v f (now w) n ⌝ ∗ ⌜ proper v face ≡ true ⌝ }
+    requires { ⌜ MarksReady v f (now w) n ⌝ ∗ ⌜ proper v face ≡ true ⌝ }
     ensures { λ r. ⌜ Taken v f (λ u. holds u face) (now (w .entry)) n (now (w .exit)) r ⌝ }
 {
     let first = list_corner(w, v, f, n, face.a);
@@ -102,7 +102,7 @@ fn list_face(w: &mut [u32], v: usize, f: usize, n: usize, face: Face) -> usize
 
 // Takes the marks off the points of the gathered faces, and lists each. Says how many are listed.
 fn list_marked(w: &mut [u32], v: usize, f: usize, count: usize) -> usize
-    requires { ⌜ Ready v f (now w) 0 ⌝ ∗ ⌜ count ≤ f ⌝ ∗ ⌜ Near v f (now w) count ⌝ }
+    requires { ⌜ MarksReady v f (now w) 0 ⌝ ∗ ⌜ count ≤ f ⌝ ∗ ⌜ Near v f (now w) count ⌝ }
     ensures { λ r. ⌜ Taken v f (λ u. found v f (now (w .entry)) count (λ face. holds u face)) (now (w .entry)) 0 (now (w .exit)) r ⌝ }
 {
     let mut n = 0;

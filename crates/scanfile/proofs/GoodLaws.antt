@@ -9,6 +9,7 @@ use mathlib.Core.Bool.{Bool, true, false, not, _||_, cond}
 use lib.Dec.{ltb, eqb}
 use lib.ListN.{length}
 use borrow.Author.Tests.{ltb-false, eqb-true, le-ltb}
+use Rattle.lists.proofs.TestLaws.{either-of}
 use Rattle.records.specs.Records.{sizeAt, kindAt}
 use Rattle.scanfile.specs.declared.Head.{Head}
 use Rattle.scanfile.specs.declared.Scan.the-variants.{Good}
@@ -21,19 +22,14 @@ use Rattle.scanfile.proofs.ScanLaws.{afterThird, afterSecond, afterOpti
 
 -- ---- the options
 
-either : (a b : Bool) → a || b ≡ true → (a ≡ true) ⊎ (b ≡ true)
-either true b e = inl refl
-either false b e = inr e
-
 -- unit 1 or 2, and flags up to 3
 options-passed : (u f : Bool) → _≡_ {A = ℕ} (cond (not u) 24 (cond f 26 0)) 0 → (u ≡ true) × (f ≡ false)
 options-passed false f e = absurd (omega arith)
 options-passed true true e = absurd (omega arith)
 options-passed true false e = (refl, refl)
 
-unit-of : (u : ℕ) → (eqb u 1 ≡ true) ⊎ (eqb u 2 ≡ true) → (u ≡ 1) ⊎ (u ≡ 2)
-unit-of u (inl e) = inl (eqb-true u 1 e)
-unit-of u (inr e) = inr (eqb-true u 2 e)
+unit-of : (u : ℕ) → eqb u 1 || eqb u 2 ≡ true → (u ≡ 1) ⊎ (u ≡ 2)
+unit-of u known = either-of (eqb u 1) (eqb u 2) known (λ e. inl (eqb-true u 1 e)) (λ e. inr (eqb-true u 2 e))
 
 known-unit : (u : ℕ) → (u ≡ 1) ⊎ (u ≡ 2) → eqb u 1 || eqb u 2 ≡ true
 known-unit u (inl e) = rw e refl
@@ -94,7 +90,7 @@ good-file bytes h e =
       whole = omega (arith, third .room, p .none-spare);
       points-most = omega (arith, second .size-most);
       faces-most = omega (arith, third .size-most);
-      unit-known = rw (p .head-is) (unit-of (unitIn bytes) (either _ _ (o .0)));
+      unit-known = rw (p .head-is) (unit-of (unitIn bytes) (o .0));
       flags-known = ltb-false 3 (flagsIn bytes) (o .1);
     }
 

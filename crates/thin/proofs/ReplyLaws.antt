@@ -23,7 +23,7 @@ use Rattle.records.proofs.WordLaws.{numbers-count}
 use Rattle.scanfile.specs.declared.Head.{Head}
 use Rattle.scanfile.specs.Layout.{pointsAt, facesAt}
 use Rattle.scanfile.specs.Contents.{pointsOf, faceNumbersOf}
-use Rattle.thin.specs.Replies.{textBy, answerText, outcomeText, optionsOf, callOf, sizeIn, Texted, Shown}
+use Rattle.thin.specs.Replies.{textBy, answerText, outcomeText, headOptions, callOf, sizeIn, Texted, Shown}
 use Rattle.thin.proofs.OutcomeLaws.{Counted}
 
 -- ---- a listing is a text
@@ -88,7 +88,7 @@ module _ {A : Type 0} (new old : List A) (n : ℕ) (long : length new ≡ n) whe
 -- with the program's memory the input is the one that the reply names
 pub same-call : (head : Head) (points : List Float) (faces : List ℕ) (memory : Lent) → 384 ≡ length (memory .points) → 768 ≡ length (memory .faces) →
     10240 ≡ length (memory .u32s) → 3584 ≡ length (memory .f32s) → 3584 ≡ length (memory .f64s) →
-    inputOf points faces (optionsOf head) memory ≡ callOf head points faces
+    inputOf points faces (headOptions head) memory ≡ callOf head points faces
 same-call head points faces memory points-long faces-long u32s-long f32s-long f64s-long =
     rw (sym points-long, sym faces-long, sym u32s-long, sym f32s-long, sym f64s-long) refl
 

@@ -37,8 +37,8 @@ abbrev pub outcomeText : ℕ → Outcome → List ℕ
 outcomeText unit o = answerText unit (o .answer) (o .points) (o .faces)
 
 -- the options that a file's head has
-abbrev pub optionsOf : Head → Options
-optionsOf head = record { ratio = head .ratio; preserve = head .preserve; limit = head .limit }
+abbrev pub headOptions : Head → Options
+headOptions head = record { ratio = head .ratio; preserve = head .preserve; limit = head .limit }
 
 -- what the library is handed: the mesh, the options, and memory for 128 points and 256 faces
 abbrev pub callOf : Head → List Float → List ℕ → Input
@@ -47,7 +47,7 @@ callOf head points faces =
       points = points;
       faces = faces;
       rooms = record { points = 384; faces = 768; u32s = 10240; f32s = 3584; f64s = 3584 };
-      options = optionsOf head;
+      options = headOptions head;
       bound = coordinateBound;
     }
 

@@ -5,12 +5,13 @@ use native.Mathlib.Omega.{arith}
 use mathlib.Core.Path.{_≡_, sym, ap, _∙_}
 use mathlib.Core.List.{List, _++_}
 use lib.Ieee.{Float}
-use lib.ListN.{length, drop, replicate, length-append, length-replicate, length-drop}
+use lib.ListN.{length, drop, replicate, length-drop}
 use lib.Seq.{ext-getD, getD-drop}
 use Rattle.geometry.specs.Constants.{nought}
 use Rattle.lists.specs.Frames.{But}
 use Rattle.plainwalk.specs.Steps.{Within}
 use Rattle.lists.proofs.DropLaws.{rest-more}
+use Rattle.lists.proofs.OverlayLaws.{length-cleared}
 use Rattle.walking.specs.Contracts.{Working}
 use Rattle.thinning.specs.Contracts.{Zeroed}
 use Rattle.memory.specs.Layout.{costsTo, placesTo, f32sNeeded, f64sNeeded, u32sNeeded}
@@ -31,13 +32,10 @@ zeroed-within {v} {f} {w} {w₁} {w'} {p} {q} {p₁} {q₁} within zeroed = reco
 }
 
 -- no memory grows or shrinks
-length-over : {A : Type 0} (n : ℕ) (zero : A) (cells : List A) → n ≤ length cells → length (replicate n zero ++ drop n cells) ≡ length cells
-length-over n zero cells fits = omega (arith, length-append (replicate n zero) (drop n cells), length-replicate n zero, length-drop n cells)
-
 pub zeroed-lengths : {v f : ℕ} {w w' : List ℕ} {p q p' q' : List Float} → Working v f w p q → Zeroed v f w p q w' p' q' →
     (length w' ≡ length w) × (length p' ≡ length p) × (length q' ≡ length q)
 zeroed-lengths {v} {f} {w} {w'} {p} {q} room zeroed = (
-  ap length (zeroed .u32s) ∙ length-over (u32sNeeded v f) 0 w (room .u32s .long),
-  ap length (zeroed .f32s) ∙ length-over (f32sNeeded v f) nought p (room .f32s),
-  ap length (zeroed .f64s) ∙ length-over (f64sNeeded v f) nought q (room .f64s),
+  ap length (zeroed .u32s) ∙ length-cleared 0 (u32sNeeded v f) w (room .u32s .long),
+  ap length (zeroed .f32s) ∙ length-cleared nought (f32sNeeded v f) p (room .f32s),
+  ap length (zeroed .f64s) ∙ length-cleared nought (f64sNeeded v f) q (room .f64s),
 )

@@ -5,9 +5,10 @@ use native.Mathlib.Omega.{arith}
 use mathlib.Core.Path.{_≡_, refl, _∙_}
 use mathlib.Core.List.{List, [], _∷_}
 use mathlib.Core.Bool.{true}
+use mathlib.Mathlib.Data.Bool.Basic.{and-elim-left}
 use lib.Dec.{ltb}
 use lib.Ieee.{Float}
-use lib.ListN.{length, length-map}
+use lib.ListN.{length}
 use mir.Syntax.{w32}
 use mir.Val.{Fits}
 use borrow.Author.Tests.{ltb-true}
@@ -15,18 +16,18 @@ use Rattle.placement.specs.declared.pair.Vertex.{Vertex}
 use Rattle.lists.specs.Lists.{every, those, below}
 use Rattle.walk.specs.Faces.{Rules, faceAt}
 use Rattle.walk.specs.Output.{used}
-use Rattle.lists.proofs.TestLaws.{left-of}
-use Rattle.lists.proofs.EveryLaws.{every-head, every-tail, every-those, every-map, length-those}
+use Rattle.lists.proofs.EveryLaws.{every-head, every-tail, every-those, every-map}
 use Rattle.walk.proofs.RenumberLaws.{corners, used-every, length-used-below}
 use Rattle.memory.specs.Memory.{lives, liveFaces}
 use Rattle.mesh.specs.Contracts.Chains.{Tidy}
-use Rattle.lists.proofs.BelowLaws.{count-below-most, all-below}
+use Rattle.lists.proofs.BelowLaws.{all-below}
 use Rattle.memory.specs.Points.{meshOf, partsOf}
 use Rattle.memory.proofs.MeshLaws.{mesh-point}
 use Rattle.output.specs.declared.Counts.{Counts}
-use Rattle.output.specs.Contracts.Written.{Written}
+use Rattle.output.specs.Contracts.Written.{MeshWritten}
 use Rattle.meaning.specs.Outcome.{partsIn}
 use Rattle.thinning.specs.Contracts.{thinnedIn, Finished}
+use Rattle.mesh.proofs.AroundLaws.{live-few}
 
 module _ {v f : ℕ} {w : List ℕ} (tidy : Tidy v f w) where
   -- the points of the live faces are below v
@@ -35,7 +36,7 @@ module _ {v f : ℕ} {w : List ℕ} (tidy : Tidy v f w) where
   live-below =
       every-map (corners (λ x. ltb x v)) (faceAt w) (those (lives f w) (below f))
       ∙ every-those (λ k. ltb k f) (lives f w)
-      (λ k l live. left-of _ _ (left-of _ _ (left-of _ _ (tidy .faces-proper k (ltb-true k f l) live))))
+      (λ k l live. and-elim-left _ _ (and-elim-left _ _ (and-elim-left _ _ (tidy .faces-proper k (ltb-true k f l) live))))
       (below f) (all-below f)
 
   -- so are the numbers written, and there are at most v
@@ -46,23 +47,12 @@ module _ {v f : ℕ} {w : List ℕ} (tidy : Tidy v f w) where
   used-few : length (used [] (liveFaces f w)) ≤ v
   used-few = length-used-below v (liveFaces f w) live-below
 
-  -- at most f faces are live
-  live-few : length (liveFaces f w) ≤ f
-  unfolding liveFaces
-  live-few =
-      omega (
-        arith,
-        length-map (those (lives f w) (below f)) (faceAt w),
-        length-those (lives f w) (below f),
-        count-below-most (lives f w) f,
-      )
-
 -- so both numbers fit u32
 pub used-fits : {v f n : ℕ} {w : List ℕ} → Tidy v f w → n ≡ length (used [] (liveFaces f w)) → Fits w32 n
 used-fits tidy counted = record { fits = omega (arith, used-few tidy, tidy .room .points-few) }
 
 pub live-fits : {v f n : ℕ} {w : List ℕ} → Tidy v f w → n ≡ length (liveFaces f w) → Fits w32 n
-live-fits tidy counted = record { fits = omega (arith, live-few tidy, tidy .room .faces-few) }
+live-fits {f = f} {w = w} tidy counted = record { fits = omega (arith, live-few f w, tidy .room .faces-few) }
 
 -- the parts of points in memory are those of the mesh that it holds
 parts-same : (rules : Rules Vertex) (v f : ℕ) (w : List ℕ) (p q : List Float) (xs : List ℕ) →
@@ -81,7 +71,7 @@ parts-written rules {v} {f} {w} p q tidy = parts-same rules v f w p q (used [] (
 
 -- what was written is the outcome of the mesh in memory
 pub written-finished : {v f : ℕ} (folds : ℕ) {w w' : List ℕ} {p points points' : List Float} {faces faces' : List ℕ} {r : Counts} →
-    Written v f w p points faces w' points' faces' r →
+    MeshWritten v f w p points faces w' points' faces' r →
     Finished v f (thinnedIn f folds w p) w points faces w' points' faces'
     (record { number = 0; place = 0; points = r .points; faces = r .faces; folds = folds })
 written-finished folds out =

@@ -7,7 +7,7 @@ use lib.ListN.{length}
 use Rattle.meaning.specs.declared.Options.{Options}
 use Rattle.meaning.specs.Call.{Lent, inputOf}
 use Rattle.checks.specs.Facts.{Sized, Admissible}
-use Rattle.walking.specs.Contracts.{Working, Ready}
+use Rattle.walking.specs.Contracts.{Working, Layable}
 use Rattle.thinning.specs.Contracts.{Measured}
 
 module _ (points : List Float) (faces : List ℕ) (options : Options) (before : Lent) where
@@ -30,7 +30,7 @@ module _ (points : List Float) (faces : List ℕ) (options : Options) (before : 
 
   -- what laying out asks
   pub ready : Admissible (inputOf points faces options before) →
-      Ready (length points / 3) (length faces / 3) points faces (before .u32s) (before .f32s) (before .f64s)
+      Layable (length points / 3) (length faces / 3) points faces (before .u32s) (before .f32s) (before .f64s)
   ready fine = record {
     points-by-three = fine .sized .points-by-three;
     faces-by-three = fine .sized .faces-by-three;

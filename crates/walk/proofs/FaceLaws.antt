@@ -4,12 +4,14 @@ use Prim.Native.Nat.{ℕ, _+_, _≤_, _<_}
 use mathlib.Core.Path.{_≡_, refl, sym, subst, _∙_}
 use mathlib.Core.Logic.{_≢_}
 use mathlib.Core.Bool.{true, false, not, _&&_, cond, or-true}
+use mathlib.Mathlib.Data.Bool.Basic.{and-elim-left, and-elim-right}
 use native.Mathlib.Omega.{arith}
 use lib.Dec.{ltb, eqb}
 use borrow.Author.Tests.{ltb-true, lt-ltb, eqb-true, eqb-false, eq-eqb, ne-eqb, not-true}
 use Rattle.walk.specs.declared.Face.{Face}
 use Rattle.walk.specs.Faces.{holds, both, renamed, renamedFace, proper, runs}
-use Rattle.lists.proofs.TestLaws.{by-test, clash, left-of, right-of, one-of-three, all-of-six, false-of, flag-le, differ, ends}
+use Rattle.lists.proofs.TestLaws.{by-test, clash, one-of-three, all-of-six, false-of, flag-le, differ, ends, not-two}
+use Rattle.lists.proofs.CondLaws.{cond-three}
 
 -- ---- the corners of one face
 
@@ -72,6 +74,14 @@ held-below v f x h held =
     let k = corners v f h in
     at-corner x f held (λ e. omega arith) (λ e. omega arith) (λ e. omega arith)
 
+-- it is at one corner alone: a weight at each corner that is at x is the weight of the face, if it holds x
+pub held-once : (v : ℕ) (f : Face) (x n : ℕ) → proper v f ≡ true →
+    cond (eqb x (f .a)) n 0 + cond (eqb x (f .b)) n 0 + cond (eqb x (f .c)) n 0 ≡ cond (holds x f) n 0
+held-once v f x n h =
+    let k = corners v f h in
+    cond-three (eqb x (f .a)) (eqb x (f .b)) (eqb x (f .c)) n
+    (not-two x (f .a) (f .b) (k .a-b)) (not-two x (f .b) (f .c) (k .b-c)) (not-two x (f .c) (f .a) (k .c-a))
+
 -- a face edge runs between two of the face's points
 pub runs-both : (x y : ℕ) (f : Face) → runs x y f ≡ true → both x y f ≡ true
 runs-both x y f h =
@@ -118,10 +128,10 @@ no-fourth x y k r four f kr =
     false-of (both x y f)
     (λ xy. omega (
       arith,
-      corner-count x f (left-of (holds x f) (holds y f) xy),
-      corner-count y f (right-of (holds x f) (holds y f) xy),
-      corner-count k f (left-of (holds k f) (holds r f) kr),
-      corner-count r f (right-of (holds k f) (holds r f) kr),
+      corner-count x f (and-elim-left (holds x f) (holds y f) xy),
+      corner-count y f (and-elim-right (holds x f) (holds y f) xy),
+      corner-count k f (and-elim-left (holds k f) (holds r f) kr),
+      corner-count r f (and-elim-right (holds k f) (holds r f) kr),
       one-corner x y k r four (f .a),
       one-corner x y k r four (f .b),
       one-corner x y k r four (f .c),

@@ -5,13 +5,14 @@ use mathlib.Core.Path.{_≡_}
 use mathlib.Core.Logic.{_≢_}
 use mathlib.Core.List.{List}
 use mathlib.Core.Bool.{Bool, true, not, cond}
+use mathlib.Mathlib.Data.Bool.Basic.{and-elim-left, and-elim-right}
 use lib.ListN.{length, length-map}
 use Rattle.walk.specs.declared.Face.{Face}
 use Rattle.walk.specs.declared.Pair.{Pair}
 use Rattle.lists.specs.Lists.{every}
 use Rattle.walk.specs.Faces.{holds, both, shared, renamedFace, proper}
 use Rattle.walk.specs.Fold.{foldedFaces}
-use Rattle.lists.proofs.TestLaws.{by-test, left-of, right-of, flag-true}
+use Rattle.lists.proofs.TestLaws.{by-test, flag-true}
 use Rattle.lists.proofs.SumLaws.{sum-map, sum-those, sum-same, witness}
 use Rattle.lists.proofs.EveryLaws.{every-all, every-map, every-those, length-those, count-not}
 use Rattle.walk.proofs.FaceLaws.{Four, no-fourth, holds-other, holds-gone, renamed-proper}
@@ -23,7 +24,7 @@ pub shared-face :
 shared-face test faces x y all h =
     let w = witness test (λ f. cond (both x y f) 1 0) faces all h in
     let b = flag-true (both x y (w .0)) (w .2) in
-    (w .0, w .1, left-of (holds x (w .0)) (holds y (w .0)) b, right-of (holds x (w .0)) (holds y (w .0)) b)
+    (w .0, w .1, and-elim-left (holds x (w .0)) (holds y (w .0)) b, and-elim-right (holds x (w .0)) (holds y (w .0)) b)
 
 -- a fold kills the faces that hold both, and no other
 pub fold-exact :

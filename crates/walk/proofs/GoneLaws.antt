@@ -5,6 +5,7 @@ use mathlib.Core.Path.{_≡_, sym, subst}
 use mathlib.Core.Logic.{_≢_}
 use mathlib.Core.List.{List}
 use mathlib.Core.Bool.{Bool, true, not, _&&_, _||_}
+use mathlib.Mathlib.Data.Bool.Basic.{and-elim-left, and-elim-right}
 use lib.Dec.{ltb, eqb}
 use lib.ListN.{length}
 use borrow.Author.Tests.{ltb-true, eqb-false, ne-eqb, not-true}
@@ -13,10 +14,10 @@ use Rattle.walk.specs.declared.Pair.{Pair}
 use Rattle.lists.specs.Lists.{those, every, below}
 use Rattle.walk.specs.Faces.{holds, both, shared, neighbour, Rules, Mesh}
 use Rattle.walk.specs.Fold.{foldedFaces, foldedMesh}
-use Rattle.walk.specs.Walk.{walk, State, Answer, folded, closed, ended, answer, after, plainMachine}
+use Rattle.walk.specs.Walk.{walk, State, StepAnswer, folded, closed, ended, answer, after, plainMachine}
 use Rattle.walk.specs.Pairs.{pairOf, samePair, apart, eligiblePair, opened}
 use Rattle.walk.specs.Sound.{Sound}
-use Rattle.lists.proofs.TestLaws.{clash, left-of, right-of, neither-of}
+use Rattle.lists.proofs.TestLaws.{clash, neither-of}
 use Rattle.lists.proofs.EveryLaws.{every-both, every-map, every-those, every-passed, every-without}
 use Rattle.walk.proofs.FaceLaws.{holds-other}
 use Rattle.walk.proofs.FoldLaws.{shared-face, folded-gone}
@@ -72,8 +73,8 @@ module _ {D : Type 0} (rules : Rules D) where
       rw every-map
       (every-passed (λ n. neighbour (m .faces) k n && eligiblePair rules m (pairOf k n))
       (λ n h.
-      let near = left-of (neighbour (m .faces) k n) (eligiblePair rules m (pairOf k n)) h in
-      let share = ltb-true 0 (shared (m .faces) k n) (right-of (not (eqb k n)) (ltb 0 (shared (m .faces) k n)) near) in
+      let near = and-elim-left (neighbour (m .faces) k n) (eligiblePair rules m (pairOf k n)) h in
+      let share = ltb-true 0 (shared (m .faces) k n) (and-elim-right (not (eqb k n)) (ltb 0 (shared (m .faces) k n)) near) in
       misses-of x (pairOf k n) k-x (shared-other (m .faces) x k n none share))
       (below (length (m .points))))
 
@@ -92,7 +93,7 @@ module _ {D : Type 0} (rules : Rules D) where
 
   -- and a point that is gone stays so, whatever a step answers
   told-gone :
-      (s : State D) (x : ℕ) → Gone s x → (a : Answer) → Told rules (s .mesh) (s .«open») a → Gone (after rules s a) x
+      (s : State D) (x : ℕ) → Gone s x → (a : StepAnswer) → Told rules (s .mesh) (s .«open») a → Gone (after rules s a) x
   unfolding after foldedMesh
   told-gone s x gone (folded p) told =
       let e = misses-known x p (pair-passes (misses x) (s .«open») p (gone .no-pair) (told .0)) in

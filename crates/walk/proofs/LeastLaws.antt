@@ -9,7 +9,7 @@ use mathlib.Core.Bool.{Bool, true, false, _&&_, _||_, cond, false≢true}
 use mathlib.Mathlib.Data.Bool.Basic.{and-elim-left, and-elim-right, and-intro, or-inl, or-inr}
 use lib.Arith.{digits-div, digits-mod}
 use lib.Dec.{leb, ltb}
-use lib.ListN.{length, getD, length-map, List·getD-map}
+use lib.ListN.{length, getD}
 use borrow.Author.Tests.{ltb-true, ltb-false, leb-true, lt-ltb, le-leb}
 use Rattle.walk.specs.declared.Pair.{Pair}
 use Rattle.lists.specs.Lists.{every, some, below, SameBag}
@@ -17,7 +17,7 @@ use Rattle.walk.specs.Faces.{Rules, Mesh}
 use Rattle.walk.specs.Pairs.{samePair, order, least}
 use Rattle.walk.specs.Walk.{tried, chosen}
 use Rattle.lists.proofs.EveryLaws.{every-from, some-from}
-use Rattle.lists.proofs.BelowLaws.{length-below, getD-below}
+use Rattle.lists.proofs.BelowLaws.{length-each, getD-each}
 use Rattle.walk.proofs.SamePairs.{pair-path, same-self, every-member}
 use Rattle.lists.proofs.BagLaws.{bag-sym, bag-length, bag-every, bag-some}
 
@@ -132,13 +132,13 @@ module _ {D : Type 0} (rules : Rules D) (m : Mesh D) where
       IsLeast (f i) (map f (below n))
   least-at-place f n i h low =
       rw (read i h) at
-      (least-at-index (f 0) (map f (below n)) i (rw (length-map, length-below) h) (λ j g. rw (read i h, read j (within j g)) (low j (within j g))))
+      (least-at-index (f 0) (map f (below n)) i (rw length-each h) (λ j g. rw (read i h, read j (within j g)) (low j (within j g))))
     where
       within : (j : ℕ) → j < length (map f (below n)) → j < n
-      within j g = rw (length-map, length-below) at g
+      within j g = rw length-each at g
 
       read : (j : ℕ) → j < n → getD (map f (below n)) j (f 0) ≡ f j
-      read j g = List·getD-map f (below n) j 0 ∙ ap f (getD-below n j g)
+      read j g = getD-each f n j (f 0) g
 
   pub chosen-by-index : (d : Pair) (ps : List Pair) (i : ℕ) → every fitting ps ≡ true → i < length ps →
       ((j : ℕ) → j < length ps → order rules m (getD ps i d) ≤ order rules m (getD ps j d)) →

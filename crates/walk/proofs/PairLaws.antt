@@ -5,6 +5,7 @@ use mathlib.Core.Path.{_≡_, refl, sym, ap, _∙_}
 use mathlib.Core.Logic.{_≢_}
 use mathlib.Core.List.{List, [], _∷_, map}
 use mathlib.Core.Bool.{Bool, true, false, not, _&&_, _||_, cond, or-true}
+use mathlib.Mathlib.Data.Bool.Basic.{and-elim-left, and-elim-right}
 use native.Mathlib.Nat.{le-trans, le-of-eq}
 use native.Mathlib.Omega.{arith}
 use lib.Dec.{ltb, eqb}
@@ -15,7 +16,7 @@ use Rattle.lists.specs.Lists.{sum, count, those, below}
 use Rattle.walk.specs.Faces.{holds, both, Mesh, Rules}
 use Rattle.walk.specs.Pairs.{pairOf, samePair, apart, pairsBelow, least, order}
 use Rattle.walk.specs.Sound.{joins}
-use Rattle.lists.proofs.TestLaws.{by-test, left-of, right-of, either-of, none-of-four, ends, by-twos}
+use Rattle.lists.proofs.TestLaws.{by-test, either-of, none-of-four, ends, by-twos}
 use Rattle.lists.proofs.SumLaws.{sum-map, sum-flatMap, sum-mono}
 use Rattle.lists.proofs.EveryLaws.{count-those, count-mono, count-none}
 use Rattle.lists.proofs.BelowLaws.{count-below-le}
@@ -46,7 +47,7 @@ pub on-edge :
     ≤ cond (joins (f .a) (f .b) q) 1 0 + cond (joins (f .b) (f .c) q) 1 0 + cond (joins (f .c) (f .a) q) 1 0
 on-edge f q k-r =
     by-test (both (q .keep) (q .remove) f)
-    (λ t. rw t (edge (left-of (holds (q .keep) f) (holds (q .remove) f) t) (right-of (holds (q .keep) f) (holds (q .remove) f) t)))
+    (λ t. rw t (edge (and-elim-left (holds (q .keep) f) (holds (q .remove) f) t) (and-elim-right (holds (q .keep) f) (holds (q .remove) f) t)))
     (λ t. rw t (omega arith))
   where
     Edge : Type 0
@@ -98,8 +99,8 @@ apart-none p ps x y h =
     rw count-those
     (count-none (λ q. apart p q && joins x y q)
     (λ q t.
-    let e = apart-known p q (left-of (apart p q) (joins x y q) t) in
-    let joined = right-of (apart p q) (joins x y q) t in
+    let e = apart-known p q (and-elim-left (apart p q) (joins x y q) t) in
+    let joined = and-elim-right (apart p q) (joins x y q) t in
     either-of (eqb (p .keep) x) (eqb (p .keep) y) h
     (λ u. let at = eqb-true (p .keep) x u in joins-cases x y q joined (λ k r. omega arith) (λ k r. omega arith))
     (λ u. let at = eqb-true (p .keep) y u in joins-cases x y q joined (λ k r. omega arith) (λ k r. omega arith)))
@@ -114,7 +115,7 @@ star-once k v test x y =
     rw (sum-map, count-those (λ n. joins x y (pairOf k n)) test)
     (le-trans
     (count-mono (λ n. test n && joins x y (pairOf k n)) (eqb other)
-    (λ n h. is-other n (right-of (test n) (joins x y (pairOf k n)) h)) (below v))
+    (λ n h. is-other n (and-elim-right (test n) (joins x y (pairOf k n)) h)) (below v))
     (count-below-le other v))
   where
     other : ℕ
@@ -132,7 +133,7 @@ pub star-none :
 star-none k v test x y k-x k-y =
     rw (sum-map, count-those (λ n. joins x y (pairOf k n)) test)
     (count-none (λ n. test n && joins x y (pairOf k n))
-    (λ n h. joins-cases x y (pairOf k n) (right-of (test n) (joins x y (pairOf k n)) h) (λ e d. k-x e) (λ e d. k-y e)) (below v))
+    (λ n h. joins-cases x y (pairOf k n) (and-elim-right (test n) (joins x y (pairOf k n)) h) (λ e d. k-x e) (λ e d. k-y e)) (below v))
 
 -- every two numbers, the lower first: the lower of two points is with the higher once
 pub rising-once :
@@ -145,8 +146,8 @@ rising-once v test rises x y =
   where
     found : (a b : ℕ) → (test (pairOf a b) && joins x y (pairOf a b)) ≡ true → (min x y ≡ a) × (max x y ≡ b)
     found a b h =
-        let rise = rises (pairOf a b) (left-of (test (pairOf a b)) (joins x y (pairOf a b)) h) in
-        joins-cases x y (pairOf a b) (right-of (test (pairOf a b)) (joins x y (pairOf a b)) h) (λ e d. omega arith) (λ e d. omega arith)
+        let rise = rises (pairOf a b) (and-elim-left (test (pairOf a b)) (joins x y (pairOf a b)) h) in
+        joins-cases x y (pairOf a b) (and-elim-right (test (pairOf a b)) (joins x y (pairOf a b)) h) (λ e d. omega arith) (λ e d. omega arith)
 
     each : (a : ℕ) → count (λ p. test p && joins x y p) (map (pairOf a) (below v)) ≤ cond (eqb (min x y) a) 1 0
     each a =

@@ -5,6 +5,7 @@ use mathlib.Core.Path.{_≡_, sym, _∙_}
 use mathlib.Core.Logic.{_≢_}
 use mathlib.Core.List.{List, _++_}
 use mathlib.Core.Bool.{Bool, true, not, _&&_, _||_, cond}
+use mathlib.Mathlib.Data.Bool.Basic.{and-elim-left, and-elim-right}
 use native.Mathlib.Nat.{le-trans}
 use native.Mathlib.Omega.{arith}
 use lib.Dec.{ltb, eqb}
@@ -18,7 +19,7 @@ use Rattle.walk.specs.Fold.{foldedMesh}
 use Rattle.walk.specs.Walk.{State, folded, closed, started, after}
 use Rattle.walk.specs.Pairs.{pairOf, samePair, apart, rises, eligiblePair, pairsBelow, opened}
 use Rattle.walk.specs.Sound.{Sound, joins, heldBy}
-use Rattle.lists.proofs.TestLaws.{by-test, left-of, right-of, neither-of, flag-true, differ}
+use Rattle.lists.proofs.TestLaws.{by-test, neither-of, flag-true, differ}
 use Rattle.lists.proofs.SumLaws.{sum-append, sum-without-le, witness}
 use Rattle.lists.proofs.EveryLaws.{some-count, count-those-le, count-mono, every-both, every-map, every-those, every-passed, every-without}
 use Rattle.walk.proofs.FaceLaws.{runs-both, held-below}
@@ -41,15 +42,21 @@ pair-passes test ps p all h =
 
 -- what it means that a live face holds a pair
 pub held-differ : {D : Type 0} (s : State D) (p : Pair) → heldBy s p ≡ true → p .keep ≢ p .remove
-held-differ s p h = differ (p .keep) (p .remove) (left-of (not (eqb (p .keep) (p .remove))) _ h)
+held-differ s p h = differ (p .keep) (p .remove) (and-elim-left (not (eqb (p .keep) (p .remove))) _ h)
 
 pub held-shared : {D : Type 0} (s : State D) (p : Pair) → heldBy s p ≡ true → 0 < shared (s .mesh .faces) (p .keep) (p .remove)
-held-shared s p h = ltb-true 0 (shared (s .mesh .faces) (p .keep) (p .remove)) (right-of (not (eqb (p .keep) (p .remove))) _ h)
+held-shared s p h = ltb-true 0 (shared (s .mesh .faces) (p .keep) (p .remove)) (and-elim-right (not (eqb (p .keep) (p .remove))) _ h)
 
 pub held-of :
     {D : Type 0} (s : State D) (p : Pair) → p .keep ≢ p .remove → 0 < shared (s .mesh .faces) (p .keep) (p .remove)
     → heldBy s p ≡ true
 held-of s p k-r h = rw (ne-eqb (p .keep) (p .remove) k-r, lt-ltb 0 (shared (s .mesh .faces) (p .keep) (p .remove)) h)
+
+pub held-points : {D : Type 0} (s : State D) → Sound s → (p : Pair) → heldBy s p ≡ true → (p .keep < length (s .mesh .points)) × (p .remove < length (s .mesh .points))
+held-points s sound p h =
+    let v = length (s .mesh .points) in
+    let w = shared-face (proper v) (s .mesh .faces) (p .keep) (p .remove) (sound .faces-proper) (held-shared s p h) in
+    (held-below v (w .0) (p .keep) (w .1) (w .2), held-below v (w .0) (p .remove) (w .1) (w .3))
 
 -- an open pair of a sound state is of two points that there are, and some live face holds both
 module _ {D : Type 0} (s : State D) (sound : Sound s) (p : Pair) (is-open : isOpen s p) where
@@ -60,10 +67,7 @@ module _ {D : Type 0} (s : State D) (sound : Sound s) (p : Pair) (is-open : isOp
   open-shared = held-shared s p (pair-passes (heldBy s) (s .«open») p (sound .open-held) is-open)
 
   pub open-below : (p .keep < length (s .mesh .points)) × (p .remove < length (s .mesh .points))
-  open-below =
-      let v = length (s .mesh .points) in
-      let w = shared-face (proper v) (s .mesh .faces) (p .keep) (p .remove) (sound .faces-proper) open-shared in
-      (held-below v (w .0) (p .keep) (w .1) (w .2), held-below v (w .0) (p .remove) (w .1) (w .3))
+  open-below = held-points s sound p (pair-passes (heldBy s) (s .«open») p (sound .open-held) is-open)
 
 module _ {D : Type 0} (rules : Rules D) where
   -- ---- the start
@@ -72,11 +76,11 @@ module _ {D : Type 0} (rules : Rules D) where
   rises-up : (m : Mesh D) (p : Pair) → (rises (m .faces) p && eligiblePair rules m p) ≡ true → p .keep < p .remove
   rises-up m p h =
       ltb-true (p .keep) (p .remove)
-      (left-of (ltb (p .keep) (p .remove)) (some (runs (p .keep) (p .remove)) (m .faces)) (left-of (rises (m .faces) p) (eligiblePair rules m p) h))
+      (and-elim-left (ltb (p .keep) (p .remove)) (some (runs (p .keep) (p .remove)) (m .faces)) (and-elim-left (rises (m .faces) p) (eligiblePair rules m p) h))
 
   rises-shared : (faces : List Face) (p : Pair) → rises faces p ≡ true → 0 < shared faces (p .keep) (p .remove)
   rises-shared faces p h =
-      let runs-some = right-of (ltb (p .keep) (p .remove)) (some (runs (p .keep) (p .remove)) faces) h in
+      let runs-some = and-elim-right (ltb (p .keep) (p .remove)) (some (runs (p .keep) (p .remove)) faces) h in
       le-trans
       (ltb-true 0 (count (runs (p .keep) (p .remove)) faces) (sym (some-count (runs (p .keep) (p .remove)) faces) ∙ runs-some))
       (count-mono (runs (p .keep) (p .remove)) (both (p .keep) (p .remove)) (runs-both (p .keep) (p .remove)) faces)
@@ -91,7 +95,7 @@ module _ {D : Type 0} (rules : Rules D) where
             every-passed (λ p. rises (m .faces) p && eligiblePair rules m p)
             (λ p h.
             held-of (started rules m) p (omega (arith, rises-up m p h))
-            (rises-shared (m .faces) p (left-of (rises (m .faces) p) (eligiblePair rules m p) h)))
+            (rises-shared (m .faces) p (and-elim-left (rises (m .faces) p) (eligiblePair rules m p) h)))
             (pairsBelow (length (m .points)));
         open-single = rising-once (length (m .points)) _ (rises-up m);
       }
@@ -126,7 +130,7 @@ module _ {D : Type 0} (rules : Rules D) where
   opened-held s k =
       rw every-map
       (every-passed (λ n. neighbour (s .mesh .faces) k n && eligiblePair rules (s .mesh) (pairOf k n))
-      (λ n h. left-of (neighbour (s .mesh .faces) k n) (eligiblePair rules (s .mesh) (pairOf k n)) h)
+      (λ n h. and-elim-left (neighbour (s .mesh .faces) k n) (eligiblePair rules (s .mesh) (pairOf k n)) h)
       (below (length (s .mesh .points))))
 
   -- two points are joined by an old pair where keep is neither, and by a new one where it is either

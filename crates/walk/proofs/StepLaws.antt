@@ -16,7 +16,7 @@ use Rattle.lists.specs.Lists.{sum, count}
 use Rattle.walk.specs.Faces.{both, Rules, Mesh}
 use Rattle.walk.specs.Fold.{foldedFaces, foldedMesh}
 use Rattle.walk.specs.FoldTest.{allowed}
-use Rattle.walk.specs.Walk.{State, Answer, folded, closed, ended, budget, tried, chosen, answer, after}
+use Rattle.walk.specs.Walk.{State, StepAnswer, folded, closed, ended, budget, tried, chosen, answer, after}
 use Rattle.walk.specs.Pairs.{samePair, least}
 use Rattle.walk.specs.Sound.{Sound, joins, heldBy}
 use Rattle.lists.proofs.TestLaws.{by-test}
@@ -69,7 +69,7 @@ weighed {weight} pairs fewer few = omega (arith, mul-le-mul-right weight fewer)
 
 module _ {D : Type 0} (rules : Rules D) where
   -- of the mesh and the open pairs, an answer tells that its pair is one of these, and whether it may be folded
-  abbrev pub Told : Mesh D → List Pair → Answer → Type 0
+  abbrev pub Told : Mesh D → List Pair → StepAnswer → Type 0
   Told m ps (folded p) = (0 < count (samePair p) ps) × (allowed rules m p ≡ true)
   Told m ps (closed p) = (0 < count (samePair p) ps) × (allowed rules m p ≡ false)
   Told m ps ended = Unit {0}
@@ -101,7 +101,7 @@ module _ {D : Type 0} (rules : Rules D) where
   -- ---- sound after a step
 
   -- whatever the answer
-  pub told-sound : (s : State D) → Sound s → (a : Answer) → Told (s .mesh) (s .«open») a → Sound (after rules s a)
+  pub told-sound : (s : State D) → Sound s → (a : StepAnswer) → Told (s .mesh) (s .«open») a → Sound (after rules s a)
   unfolding after
   told-sound s sound (folded p) told = fold-sound rules s sound p (told .0)
   told-sound s sound (closed p) told = close-sound rules s sound p
@@ -137,7 +137,7 @@ module _ {D : Type 0} (rules : Rules D) where
       → budget faces (after rules s (answer rules target s)) < budget faces s
   budget-falls target faces s sound few = falls (answer rules target s) (answer-told target s)
     where
-      falls : (a : Answer) → Told (s .mesh) (s .«open») a → a ≢ ended → budget faces (after rules s a) < budget faces s
+      falls : (a : StepAnswer) → Told (s .mesh) (s .«open») a → a ≢ ended → budget faces (after rules s a) < budget faces s
       falls (folded p) told not-ended = fold-falls faces s sound few p (told .0)
       falls (closed p) told not-ended = close-falls faces s p (told .0)
       falls ended told not-ended = absurd (not-ended refl)

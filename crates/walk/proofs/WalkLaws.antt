@@ -8,14 +8,14 @@ use native.Mathlib.Omega.{arith}
 use lib.ListN.{length, length-set}
 use Rattle.walk.specs.Faces.{Rules}
 use Rattle.walk.specs.Fold.{foldedMesh}
-use Rattle.walk.specs.Walk.{walk, foldList, State, Answer, folded, closed, ended, foldOf, budget, answer, after, plainMachine}
+use Rattle.walk.specs.Walk.{walk, foldList, State, StepAnswer, folded, closed, ended, foldOf, budget, answer, after, plainMachine}
 use Rattle.walk.specs.Sound.{Sound}
 use Rattle.walk.proofs.MachineLaws as machines
 use Rattle.walk.proofs.MachineLaws.{Ending}
 use Rattle.walk.proofs.StepLaws.{Told, answer-told, step-sound, fold-fewer, budget-falls}
 
 -- an answer is the end or not
-ended-or : (a : Answer) → (a ≡ ended) ⊎ (a ≢ ended)
+ended-or : (a : StepAnswer) → (a ≡ ended) ⊎ (a ≢ ended)
 ended-or (folded p) = inr (λ e. let z : _≡_ {A = ℕ} 0 1 = cc in omega arith)
 ended-or (closed p) = inr (λ e. let z : _≡_ {A = ℕ} 0 1 = cc in omega arith)
 ended-or ended = inl refl
@@ -24,7 +24,7 @@ ended-or ended = inl refl
 
 module _ {D : Type 0} (rules : Rules D) where
   -- the points stay as many
-  pub after-points : (s : State D) (a : Answer) → length ((after rules s a) .mesh .points) ≡ length (s .mesh .points)
+  pub after-points : (s : State D) (a : StepAnswer) → length ((after rules s a) .mesh .points) ≡ length (s .mesh .points)
   unfolding after foldedMesh
   after-points s (folded p) = length-set (s .mesh .points) (p .keep) _
   after-points s (closed p) = refl
@@ -32,7 +32,7 @@ module _ {D : Type 0} (rules : Rules D) where
 
   -- the live faces don't grow, and a fold kills one
   told-fewer :
-      (s : State D) → Sound s → (a : Answer) → Told rules (s .mesh) (s .«open») a
+      (s : State D) → Sound s → (a : StepAnswer) → Told rules (s .mesh) (s .«open») a
       → length (foldOf a) + length ((after rules s a) .mesh .faces) ≤ length (s .mesh .faces)
   unfolding after foldedMesh foldOf
   told-fewer s sound (folded p) told = omega (arith, fold-fewer s sound p (told .0))

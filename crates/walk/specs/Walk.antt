@@ -45,13 +45,13 @@ pub record SameState {D : Type 0} (s t : State D) : Type 0 where
   pub same-open : SameBag (s .«open») (t .«open»)
 
 -- what a step did
-pub data Answer : Type 0 where
-  folded : Pair → Answer
-  closed : Pair → Answer
-  ended : Answer
+pub data StepAnswer : Type 0 where
+  folded : Pair → StepAnswer
+  closed : Pair → StepAnswer
+  ended : StepAnswer
 
 -- the pair that an answer folded
-unfoldable pub foldOf : Answer → List Pair
+unfoldable pub foldOf : StepAnswer → List Pair
 foldOf (folded p) = p ∷ []
 foldOf (closed p) = []
 foldOf ended = []
@@ -67,22 +67,22 @@ module _ {D : Type 0} (rules : Rules D) where
   started m = record { mesh = m; «open» = those (λ p. rises (m .faces) p && eligiblePair rules m p) (pairsBelow (length (m .points))) }
 
   -- the least open pair is folded where that is allowed, and closed where it is not
-  unfoldable pub tried : Mesh D → Pair → Answer
+  unfoldable pub tried : Mesh D → Pair → StepAnswer
   unfolding allowed
   tried m p = cond (allowed rules m p) (folded p) (closed p)
 
-  unfoldable pub chosen : Mesh D → List Pair → Answer
+  unfoldable pub chosen : Mesh D → List Pair → StepAnswer
   unfolding least tried
   chosen m [] = ended
   chosen m (p ∷ ps) = tried m (least rules m p ps)
 
   -- the walk ends at the target or with no open pair
-  unfoldable pub answer : ℕ → State D → Answer
+  unfoldable pub answer : ℕ → State D → StepAnswer
   unfolding chosen
   answer target s = cond (leb (length (s .mesh .faces)) target) ended (chosen (s .mesh) (s .«open»))
 
   -- the state after an answer
-  unfoldable pub after : State D → Answer → State D
+  unfoldable pub after : State D → StepAnswer → State D
   unfolding foldedMesh those opened without
   after s (folded p) =
       record { mesh = foldedMesh rules (s .mesh) p; «open» = those (apart p) (s .«open») ++ opened rules (foldedMesh rules (s .mesh) p) (p .keep) }
@@ -90,5 +90,5 @@ module _ {D : Type 0} (rules : Rules D) where
   after s ended = s
 
   -- the plain walk as a machine: its walk is the meaning of thinning
-  abbrev pub plainMachine : ℕ → Machine (State D) Answer
+  abbrev pub plainMachine : ℕ → Machine (State D) StepAnswer
   plainMachine target = record { answer = answer target; after = after; foldOf = foldOf; ended = ended }

@@ -21,10 +21,10 @@ use Rattle.mesh.specs.Contracts.Quadrics.{QuadricsAre}
 use Rattle.mesh.proofs.QuadricLaws.{points-length, points-rest}
 use Rattle.mesh.proofs.StartLaws.{bordered-laid, slots-proper, mesh-laid}
 use Rattle.lists.proofs.DropLaws.{rest-more}
-use Rattle.walking.specs.Contracts.{Ready, LaidOut}
+use Rattle.walking.specs.Contracts.{Layable, LaidOut}
 use Rattle.memory.specs.Layout.{costsTo, placesTo}
 
-module _ {v f n : ℕ} {points : List Float} {faces : List ℕ} {preserve : Bool} {w w₁ w₂ : List ℕ} {p q : List Float} (ready : Ready v f points faces w p q)
+module _ {v f n : ℕ} {points : List Float} {faces : List ℕ} {preserve : Bool} {w w₁ w₂ : List ℕ} {p q : List Float} (ready : Layable v f points faces w p q)
     (laid : Laid v f faces w w₁) (bordered : Bordered v f preserve w₁ w₂ n) where
   -- what laying the quadrics asks
   pub quadrics-asked : {p₁ : List Float} → p₁ ≡ withPoints v points p →

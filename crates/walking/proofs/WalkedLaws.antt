@@ -15,11 +15,12 @@ use Rattle.plainwalk.specs.declared.Walked.{Walked}
 use Rattle.plainwalk.specs.Whole.{WalkDone}
 use Rattle.plainwalk.proofs.Theorems.{plain-walk-fewer}
 use Rattle.meaning.specs.Input.{Input, pointsIn, facesIn}
-use Rattle.meaning.specs.Outcome.{startOf, targetOf, lastMesh, foldsWalked, foldsMade}
+use Rattle.meaning.specs.Outcome.{startOf, targetOf, lastMesh, foldsWalked}
 use Rattle.meaning.specs.Call.{listed}
 use Rattle.walking.specs.Contracts.{Working, LaidOut, Walkable, MeshWalked}
-use Rattle.walking.proofs.WithinLaws.{within-then, working-within}
+use Rattle.walking.proofs.WithinLaws.{working-within}
 use Rattle.walking.proofs.LaidLaws.{borders-few}
+use Rattle.plainwalk.proofs.MemoryLaws.{within-then}
 
 -- ---- from the mesh that is laid out to the last mesh
 
@@ -41,7 +42,7 @@ module _ (i : Input) {target borders : ℕ} {u w w' : List ℕ} {pu qu p q p' q'
   unfolding lastMesh startOf
   last-mesh = done .same-mesh ∙ rw (laid .same-mesh, aim)
 
-  folds-made : r .folds ≡ foldsMade i
+  folds-made : r .folds ≡ length (foldsWalked i)
   unfolding foldsWalked startOf
   folds-made = done .same-folds ∙ rw (laid .same-mesh, aim)
 

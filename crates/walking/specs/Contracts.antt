@@ -15,7 +15,7 @@ use Rattle.plainwalk.specs.Steps.{Within}
 use Rattle.meaning.specs.declared.Options.{Options}
 use Rattle.meaning.specs.Input.{Input, pointsIn, facesIn}
 use Rattle.meaning.specs.Start.{startMesh}
-use Rattle.meaning.specs.Outcome.{targetOf, lastMesh, foldsWalked, foldsMade, bordersHeld}
+use Rattle.meaning.specs.Outcome.{targetOf, lastMesh, foldsWalked, bordersHeld}
 use Rattle.meaning.specs.Call.{coordinateBound, listed}
 use Rattle.walking.specs.declared.Came.{Came}
 
@@ -26,7 +26,7 @@ pub record Working (v f : ℕ) (u : List ℕ) (p q : List Float) : Type 0 where
   pub f64s : f64sNeeded v f ≤ length q
 
 -- a mesh that may be laid out: three numbers to a point and to a face, faces with three distinct points, and work memory for them
-pub record Ready (v f : ℕ) (points : List Float) (faces : List ℕ) (u : List ℕ) (p q : List Float) : Type 0 where
+pub record Layable (v f : ℕ) (points : List Float) (faces : List ℕ) (u : List ℕ) (p q : List Float) : Type 0 where
   pub points-by-three : length points ≡ 3 * v
   pub faces-by-three : length faces ≡ 3 * f
   pub faces-proper : every (proper v) (facesOf f faces) ≡ true
@@ -67,6 +67,6 @@ pub record MeshWalked (i : Input) (u : List ℕ) (p q : List Float) (u' : List �
   pub aim : came .target ≡ targetOf i
   pub borders-held : came .borders ≡ bordersHeld i
   pub borders-few : came .borders ≤ pointsIn i
-  pub folds-made : came .folds ≡ foldsMade i
+  pub folds-made : came .folds ≡ length (foldsWalked i)
   pub folds-few : came .folds ≤ facesIn i
   pub folds-listed : folds' ≡ listed (foldsWalked i) folds

@@ -6,7 +6,7 @@ ghost use Rattle.memory.specs.Memory.{Room};
 ghost use Rattle.memory.specs.Entries.{foldsIn};
 ghost use Rattle.plainwalk.specs.Whole.{WalkDone};
 ghost use Rattle.meaning.specs.Call.{coordinateBound, listed};
-ghost use Rattle.walking.specs.Contracts.{Ready, Walkable, LaidOut, inputWalked, MeshWalked};
+ghost use Rattle.walking.specs.Contracts.{Layable, Walkable, LaidOut, inputWalked, MeshWalked};
 use meaning::Options;
 use placement::Bounds;
 use placement::Limit;
@@ -39,7 +39,7 @@ fn laid_out(
     v: usize,
     f: usize,
 ) -> usize
-    requires { ⌜ Ready v f (now points) (now faces) (now w) (now p) (now q) ⌝ }
+    requires { ⌜ Layable v f (now points) (now faces) (now w) (now p) (now q) ⌝ }
     ensures { λ n. ⌜ LaidOut v f (now (points .entry)) (now (faces .entry)) preserve (now (w .entry)) (now (p .entry)) (now (q .entry)) (now (w .exit)) (now (p .exit)) (now (q .exit)) n ⌝ }
 {
     mesh::lay_faces(faces, w, v, f);
@@ -100,7 +100,7 @@ pub fn walked(
     q: &mut [f64],
     folds: &mut [u32],
 ) -> Came
-    requires { ⌜ Ready (length (now points) / 3) (length (now faces) / 3) (now points) (now faces) (now w) (now p) (now q) ⌝ }
+    requires { ⌜ Layable (length (now points) / 3) (length (now faces) / 3) (now points) (now faces) (now w) (now p) (now q) ⌝ }
     ensures { λ r. ⌜ MeshWalked (inputWalked (now (points .entry)) (now (faces .entry)) options) (now (w .entry)) (now (p .entry)) (now (q .entry)) (now (w .exit)) (now (p .exit)) (now (q .exit)) (now (folds .entry)) (now (folds .exit)) r ⌝ }
 {
     let v = points.len() / 3;

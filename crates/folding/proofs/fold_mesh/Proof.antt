@@ -4,7 +4,7 @@ use native.Mathlib.Omega.{arith}
 use mathlib.Core.Path.{ap, ap₂, _∙_}
 use borrow.Author.Needs.{needs}
 use denote.Ref.{now}
-use Rattle.geometry.specs.Quadrics.{sum}
+use Rattle.geometry.specs.Quadrics.{quadricSum}
 use Rattle.memory.specs.Points.{withQuadric}
 use Rattle.folding.proofs.MovedLaws.{mesh-folded}
 use Rattle.folding.proofs.fold_mesh.Statement.{statement}
@@ -41,7 +41,7 @@ returns c limit bound placed =
     (s .args .fold .place) limit bound placed (moved added .set-point .ensures)
     (stored .set-quadric .ensures
     ∙ ap (withQuadric (now (s .args .q)) (s .args .fold .keep))
-    (added .sum .ensures ∙ ap₂ sum (added .before .before .before .quadric-at .ensures) (added .before .quadric-at2 .ensures)))
+    (added .sum .ensures ∙ ap₂ quadricSum (added .before .before .before .quadric-at .ensures) (added .before .quadric-at2 .ensures)))
 
 pub fold-mesh-spec : {M : Type 1} → statement M
 fold-mesh-spec =

@@ -2,10 +2,12 @@
 use Prim.Native.Nat.{ℕ, _*_}
 use mathlib.Core.Path.{_≡_}
 use mathlib.Core.List.{List}
+use mathlib.Core.Bool.{true, false}
 use lib.ListN.{length, drop}
 use lib.Ieee.{Float}
 use Rattle.placement.specs.declared.Limit.{Limit}
 use Rattle.walk.specs.Faces.{shared}
+use Rattle.walk.specs.FoldTest.{allowed}
 use Rattle.walk.specs.Fold.{foldedFaces, foldedMesh}
 use Rattle.walk.specs.Pairs.{pairOf}
 use Rattle.memory.specs.Memory.{liveFaces}
@@ -13,7 +15,9 @@ use Rattle.lists.specs.Frames.{But}
 use Rattle.mesh.specs.Contracts.Chains.{Tidy}
 use Rattle.memory.specs.Points.{meshOf}
 use Rattle.meaning.specs.Arithmetic.{rulesOf}
-use Rattle.memory.specs.Layout.{kindsFrom}
+use Rattle.memory.specs.Layout.{aroundFrom, kindsFrom, nearFrom}
+use Rattle.folding.specs.declared.Tried.{Tried}
+use Rattle.folding.specs.declared.Tried.the-variants.{Folded, Refused}
 
 -- the faces after the fold: those that hold both are gone, remove's number is keep's in the rest, and each is listed at its points again
 pub record FacesFolded (v f : ℕ) (w : List ℕ) (keep remove : ℕ) (w' : List ℕ) (gone : ℕ) : Type 0 where
@@ -32,3 +36,16 @@ pub record MeshFolded (v f : ℕ) (limit : Limit) (bound : Float) (w : List ℕ)
   pub same-length-q : length q' ≡ length q
   pub rest-p : drop (3 * v) p' ≡ drop (3 * v) p
   pub rest-q : drop (10 * v) q' ≡ drop (10 * v) q
+
+-- what a fold that was tried came to: made where the fold test passes, and else every cell as it was
+abbrev pub CameTo : (v f : ℕ) (limit : Limit) (bound : Float) (w : List ℕ) (p q : List Float) (keep remove : ℕ) (w' : List ℕ) (p' q' : List Float) → Tried → Type 0
+CameTo v f limit bound w p q keep remove w' p' q' (Folded gone) =
+    (allowed (rulesOf limit bound) (meshOf v f w p q) (pairOf keep remove) ≡ true) × MeshFolded v f limit bound w p q keep remove w' p' q' gone
+CameTo v f limit bound w p q keep remove w' p' q' Refused =
+    (allowed (rulesOf limit bound) (meshOf v f w p q) (pairOf keep remove) ≡ false) × (w' ≡ w) × (p' ≡ p) × (q' ≡ q)
+
+-- a fold that was tried: the faces around its points are listed, which leaves the mesh, and from there it came to that
+pub record FoldTried (v f : ℕ) (limit : Limit) (bound : Float) (w : List ℕ) (p q : List Float) (keep remove : ℕ) (w' : List ℕ) (p' q' : List Float) (r : Tried) : Type 0 where
+  pub listed : List ℕ
+  pub but : But (nearFrom v f) (aroundFrom v f) w listed
+  pub came : CameTo v f limit bound listed p q keep remove w' p' q' r

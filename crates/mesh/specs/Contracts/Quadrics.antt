@@ -5,13 +5,13 @@ use mathlib.Core.List.{List}
 use lib.Ieee.{Float}
 use lib.ListN.{length, drop}
 use Rattle.geometry.specs.declared.Quadric.{Quadric}
-use Rattle.geometry.specs.Quadrics.{sum}
+use Rattle.geometry.specs.Quadrics.{quadricSum}
 use Rattle.walk.specs.declared.Face.{Face}
 use Rattle.memory.specs.Points.{quadricAt, withQuadric}
 
 -- a quadric added to that of one point
 unfoldable pub withSum : List Float → ℕ → Quadric → List Float
-withSum q x b = withQuadric q x (sum (quadricAt q x) b)
+withSum q x b = withQuadric q x (quadricSum (quadricAt q x) b)
 
 -- and to those of a face's three points, in order
 unfoldable pub withFace : List Float → Face → Quadric → List Float

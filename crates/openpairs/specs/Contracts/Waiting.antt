@@ -23,7 +23,7 @@ module _ (v f : ℕ) (w : List ℕ) (p q : List Float) (limit : Limit) (bound : 
   waiting n = map (pairOf x) (those fits (aroundIn v f w n))
 
 -- the lent memory has its room, x and the listed points are some of the points, and there is a place for each pair that waits
-pub record Ready (v f : ℕ) (w : List ℕ) (p q : List Float) (limit : Limit) (bound : Float) (x count n : ℕ) : Type 0 where
+pub record PairsReady (v f : ℕ) (w : List ℕ) (p q : List Float) (limit : Limit) (bound : Float) (x count n : ℕ) : Type 0 where
   pub room : Room v f w
   pub points-long : 3 * v ≤ length p
   pub quadrics-long : 10 * v ≤ length q

@@ -13,7 +13,7 @@ use Rattle.output.specs.declared.Counts.{Counts}
 use Rattle.memory.specs.Layout.{marksFrom, stampsFrom}
 
 -- live faces in face order, points numbered by first use
-pub record Written (v f : ℕ) (w : List ℕ) (p : List Float) (points : List Float) (faces : List ℕ) (w' : List ℕ) (points' : List Float) (faces' : List ℕ) (r : Counts) : Type 0 where
+pub record MeshWritten (v f : ℕ) (w : List ℕ) (p : List Float) (points : List Float) (faces : List ℕ) (w' : List ℕ) (points' : List Float) (faces' : List ℕ) (r : Counts) : Type 0 where
   pub but : But (marksFrom v f) (stampsFrom v f) w w'
   pub points-out : points' ≡ overlaid (partsOf p (used [] (liveFaces f w))) points
   pub faces-out : faces' ≡ overlaid (numbersOf (renumbered (liveFaces f w))) faces

@@ -23,11 +23,11 @@ pub record Queue (v f : ℕ) (w : List ℕ) (q : List Float) (n : ℕ) : Type 0 
   pub ordered : HeapFrom 0 v f w q n
 
 -- every entry's pair is of points below v
-abbrev pub Named : (v f : ℕ) (w : List ℕ) (n : ℕ) → Type 0
-Named v f w n = (s : ℕ) → isQueued v f w n s ≡ true → (pairAt v f w s .keep < v) × (pairAt v f w s .remove < v)
+abbrev pub QueueNamed : (v f : ℕ) (w : List ℕ) (n : ℕ) → Type 0
+QueueNamed v f w n = (s : ℕ) → isQueued v f w n s ≡ true → (pairAt v f w s .keep < v) × (pairAt v f w s .remove < v)
 
 -- a slot whose entry has a pair of points below v
-pub record Entered (v f : ℕ) (w : List ℕ) (s : ℕ) : Type 0 where
+pub record EntryNamed (v f : ℕ) (w : List ℕ) (s : ℕ) : Type 0 where
   pub slot : s < 3 * f
   pub keep : pairAt v f w s .keep < v
   pub remove : pairAt v f w s .remove < v
@@ -35,7 +35,7 @@ pub record Entered (v f : ℕ) (w : List ℕ) (s : ℕ) : Type 0 where
 -- What the entries know: their pairs are of points below v, none has a stamp above the present one, so that an old entry never becomes current again,
 -- and a current one has the cost and the place that its pair has in the present mesh.
 pub record Kept (v f : ℕ) (w : List ℕ) (p q : List Float) (n : ℕ) (bound : Float) : Type 0 where
-  pub named : Named v f w n
+  pub named : QueueNamed v f w n
   pub older : (s : ℕ) → isQueued v f w n s ≡ true →
       (keepStamp v f w s ≤ stamp v f w (pairAt v f w s .keep)) × (removeStamp v f w s ≤ stamp v f w (pairAt v f w s .remove))
   pub cost : (s : ℕ) → isQueued v f w n s ≡ true → isCurrent v f w s ≡ true →

@@ -4,16 +4,12 @@ use mathlib.Core.Path.{_≡_}
 use mathlib.Core.List.{List}
 use mathlib.Core.Bool.{Bool, true, false}
 use Rattle.walk.specs.declared.Face.{Face}
-use Rattle.lists.specs.Lists.{sum, those, below, stretch}
+use Rattle.lists.specs.Lists.{sum, those, below}
 use Rattle.walk.specs.Faces.{neighbour}
 use Rattle.walk.specs.Pairs.{pairOf, rises}
-use Rattle.memory.specs.Memory.{liveFaces}
+use Rattle.memory.specs.Memory.{liveFaces, aroundIn}
 use Rattle.lists.specs.Frames.{But}
-use Rattle.memory.specs.Layout.{aroundFrom, nearFrom, orderFrom}
-
--- the n points that are listed
-abbrev pub aroundIn : ℕ → ℕ → List ℕ → ℕ → List ℕ
-aroundIn v f w n = stretch w (aroundFrom v f) n
+use Rattle.memory.specs.Layout.{nearFrom, orderFrom}
 
 -- which points are listed around x: at the start those to which a face edge rises from x, after a fold its neighbours
 abbrev pub isAround : Bool → List Face → ℕ → ℕ → Bool

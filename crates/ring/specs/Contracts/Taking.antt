@@ -27,6 +27,6 @@ pub record Taken (v f : ℕ) (which : ℕ → Bool) (w : List ℕ) (n : ℕ) (w'
   pub sums : (g : ℕ → ℕ) → sum g (aroundIn v f w' n') + sum g (marked v f w') ≡ sum g (aroundIn v f w n) + sum g (marked v f w)
 
 -- the lent memory has its room, and there is a place for each marked point
-pub record Ready (v f : ℕ) (w : List ℕ) (n : ℕ) : Type 0 where
+pub record MarksReady (v f : ℕ) (w : List ℕ) (n : ℕ) : Type 0 where
   pub room : Room v f w
   pub enough : n + length (marked v f w) ≤ v

@@ -4,7 +4,7 @@ use borrow.Author.Needs.{needs}
 use Rattle.meaning.specs.Input.{Input}
 use Rattle.meaning.specs.Call.{Lent, lent, inputOf}
 use Rattle.meaning.specs.Outcome.{Outcome, outcome}
-use Rattle.thin.specs.Replies.{optionsOf, callOf}
+use Rattle.thin.specs.Replies.{headOptions, callOf}
 use Rattle.thin.proofs.OutcomeLaws.{counted}
 use Rattle.thin.proofs.ReplyLaws.{same-call, shown, outcome-texted}
 use Rattle.thin.proofs.write_thinned.Statement.{statement}
@@ -30,7 +30,7 @@ abbrev outcomeHere : tie.After-thin → Outcome
 outcomeHere c = outcome (callHere c)
 
 -- the library is handed that input
-same : (c : tie.After-thin) → inputOf (start c .args .points .now) (start c .args .faces .now) (optionsOf (start c .args .head)) (memory c) ≡ callHere c
+same : (c : tie.After-thin) → inputOf (start c .args .points .now) (start c .args .faces .now) (headOptions (start c .args .head)) (memory c) ≡ callHere c
 same c =
     let m = made c in
     same-call (start c .args .head) (start c .args .points .now) (start c .args .faces .now) (memory c)

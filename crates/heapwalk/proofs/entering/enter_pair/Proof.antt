@@ -4,9 +4,10 @@ use native.Mathlib.Omega.{arith}
 use mathlib.Core.Path.{_≡_, sym, ap₂, _∙_}
 use borrow.Author.Needs.{needs}
 use Rattle.placement.specs.Pairs.{pairCandidate}
+use Rattle.placement.proofs.PlacementLaws.{candidate-eligible, candidate-none}
 use Rattle.memory.specs.Points.{vertexAt}
 use Rattle.openpairs.specs.Contracts.Waiting.{fits}
-use Rattle.heapwalk.proofs.EnterLaws.{candidate-eligible, candidate-none, one-point, one-place, entered-one, entered-not}
+use Rattle.heapwalk.proofs.EnterLaws.{one-point, one-place, entered-one, entered-not}
 use Rattle.heapwalk.proofs.entering.enter_pair.Statement.{statement}
 use Rattle.heapwalk.proofs.entering.enter_pair.Tie as tie
 

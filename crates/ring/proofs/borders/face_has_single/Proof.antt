@@ -5,8 +5,8 @@ use native.Mathlib.Omega.{arith}
 use mathlib.Core.Bool.{Bool}
 use borrow.Author.Needs.{needs}
 use Rattle.ring.specs.Contracts.Marking.{single}
-use Rattle.mesh.proofs.FaceCorners.{Points}
-use Rattle.ring.proofs.MarkLaws.{points-read}
+use Rattle.walk.proofs.FaceLaws.{Corners}
+use Rattle.ring.proofs.MarkLaws.{corners-read}
 use Rattle.ring.proofs.BorderLaws.{first-passes, second-passes, third-decides}
 use Rattle.ring.proofs.borders.face_has_single.Statement.{statement}
 use Rattle.ring.proofs.borders.face_has_single.Tie as tie
@@ -15,9 +15,9 @@ use Rattle.ring.proofs.borders.face_has_single.Tie as tie
 abbrev passed : tie.Start → ℕ → Bool
 passed c = single (c .args .v) (c .args .f) (c .args .w .now) (c .args .x)
 
--- the points of the face that was read
-points : (c : tie.After-face-in) → Points (c .before .before .args .v) (c .face-in .result)
-points c = points-read _ (c .face-in .ensures) (c .before .before .pre .1 .1)
+-- the corners of the face that was read
+points : (c : tie.After-face-in) → Corners (c .before .before .args .v) (c .face-in .result)
+points c = corners-read _ (c .face-in .ensures) (c .before .before .pre .1 .1)
 
 is-single-requires : tie.Need-is-single-requires
 is-single-requires c κs = omega (arith, points c)

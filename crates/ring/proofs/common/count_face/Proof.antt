@@ -2,15 +2,15 @@
 -- Assumes nothing.
 use native.Mathlib.Omega.{arith}
 use borrow.Author.Needs.{needs}
-use Rattle.mesh.proofs.FaceCorners.{Points}
-use Rattle.ring.proofs.MarkLaws.{points-read}
+use Rattle.walk.proofs.FaceLaws.{Corners}
+use Rattle.ring.proofs.MarkLaws.{corners-read}
 use Rattle.ring.proofs.CommonLaws.{counted-few, face-counted}
 use Rattle.ring.proofs.common.count_face.Statement.{statement}
 use Rattle.ring.proofs.common.count_face.Tie as tie
 
--- the points of the face that was read
-points : (c : tie.After-face-in) → Points (c .before .before .before .args .v) (c .face-in .result)
-points c = points-read _ (c .face-in .ensures) (c .before .before .before .pre .1 .1)
+-- the corners of the face that was read
+points : (c : tie.After-face-in) → Corners (c .before .before .before .args .v) (c .face-in .result)
+points c = corners-read _ (c .face-in .ensures) (c .before .before .before .pre .1 .1)
 
 returns : tie.Need-returns
 returns c =

@@ -2,14 +2,14 @@
 -- Assumes nothing.
 use native.Mathlib.Omega.{arith}
 use borrow.Author.Needs.{needs}
-use Rattle.mesh.proofs.FaceCorners.{Points}
-use Rattle.ring.proofs.MarkLaws.{remarked-most, points-read, face-marked}
+use Rattle.walk.proofs.FaceLaws.{Corners}
+use Rattle.ring.proofs.MarkLaws.{remarked-most, corners-read, face-marked}
 use Rattle.ring.proofs.marking.mark_face.Statement.{statement}
 use Rattle.ring.proofs.marking.mark_face.Tie as tie
 
--- the points of the face that was read
-points : (c : tie.After-face-in) → Points (c .before .before .before .args .v) (c .face-in .result)
-points c = points-read _ (c .face-in .ensures) (c .before .before .before .pre .1 .1 .0)
+-- the corners of the face that was read
+points : (c : tie.After-face-in) → Corners (c .before .before .before .args .v) (c .face-in .result)
+points c = corners-read _ (c .face-in .ensures) (c .before .before .before .pre .1 .1 .0)
 
 add-mark-requires : tie.Need-add-mark-requires
 add-mark-requires c κs =
