@@ -84,6 +84,7 @@ fn counted() -> Tally {
     t
 }
 
+// Runs every record of standard input, and says how many of each kind came out right.
 fn main() {
     let t = counted();
     say(b"roots right ", t.roots);

@@ -202,6 +202,7 @@ fn read_input(input: &mut [u8]) -> Got
     Got::Bytes(at)
 }
 
+// Reads a file, and prints the reply to it.
 fn main() {
     let mut input = input_cells();
     let mut text = text_cells();
