@@ -1,8 +1,10 @@
 -- A step's answer: at the end, and of a pair that is off the queue.
 -- Assumes nothing.
-use Prim.Native.Nat.{ℕ, _+_, _≤_}
+use Prim.Native.Nat.{ℕ, _+_, _≤_, _<_}
+use native.Mathlib.Nat.{add-zero}
 use native.Mathlib.Omega.{arith}
-use mathlib.Core.Path.{_≡_, refl, sym, ap, _∙_}
+use mathlib.Core.Path.{_≡_, refl, sym, ap, subst, _∙_}
+use mathlib.Core.Logic.{inl, inr}
 use mathlib.Core.List.{List}
 use mathlib.Core.Bool.{Bool, cond, false≢true}
 use lib.Dec.{leb}
@@ -15,7 +17,7 @@ use Rattle.placement.specs.declared.pair.Vertex.{Vertex}
 use Rattle.lists.specs.Lists.{sum, those, some, without, below}
 use Rattle.walk.specs.Faces.{Mesh}
 use Rattle.walk.specs.FoldTest.{allowed}
-use Rattle.walk.specs.Walk.{folded, closed, ended, tried, chosen, answer, after, SameState}
+use Rattle.walk.specs.Walk.{StepAnswer, folded, closed, ended, tried, chosen, answer, after, SameState}
 use Rattle.walk.specs.Pairs.{pairOf}
 use Rattle.walk.proofs.SamePairs.{same-self}
 use Rattle.lists.proofs.BagLaws.{bag-refl}
@@ -26,16 +28,22 @@ use Rattle.mesh.proofs.TidyLaws.{tidy-but}
 use Rattle.mesh.proofs.AroundLaws.{live-faces-but}
 use Rattle.memory.specs.Points.{meshOf}
 use Rattle.meaning.specs.Arithmetic.{rulesOf}
-use Rattle.memory.specs.Entries.{pairAt, entryPlace}
+use Rattle.memory.specs.Entries.{pairAt, entryPlace, stamp}
 use Rattle.queue.specs.State.{openIn, heapState}
+use Rattle.queue.specs.Stored.{StoredEntry, stampsOf, entriesIn, Requeued}
 use Rattle.queue.specs.Contracts.Changes.{Fewer, NoneLeft}
+use Rattle.queue.proofs.RequeuedLaws.{requeued-none}
+use Rattle.queue.proofs.TakeLaws.{none-open}
+use Rattle.queue.proofs.TopLaws.{none-current}
+use Rattle.heapwalk.specs.Entries.{newEntries, raises}
+use Rattle.heapwalk.proofs.QueueFrames.{entries-lists}
 use Rattle.plainwalk.specs.declared.Step.the-variants.{Closed, Ended}
 use Rattle.plainwalk.specs.declared.Stepped.{Stepped}
 use Rattle.walk.proofs.StateLaws.{same-refl, sound-bag}
 use Rattle.plainwalk.specs.Steps.{StepWithin}
 use Rattle.plainwalk.proofs.MemoryLaws.{within-refl, within-but}
 use Rattle.memory.proofs.MeshLaws.{mesh-but}
-use Rattle.heapwalk.specs.Steps.{pairState, HeapHolds, TopHolds, PairHolds, PairAnswer, TopTried, HeapStepDone}
+use Rattle.heapwalk.specs.Steps.{pairState, HeapHolds, TopHolds, PairHolds, PairAnswer, TopTried, QueueStep, HeapStepDone}
 use Rattle.queue.proofs.MovedLaws.{moved-but, kept-moved}
 use Rattle.heapwalk.proofs.MemoryLaws.{answer-before, pair-state-but}
 use Rattle.memory.specs.Layout.{nearFrom, orderFrom, stampsFrom}
@@ -55,16 +63,20 @@ module _ {v f : ℕ} {w : List ℕ} {p q : List Float} {n live : ℕ} {bound : F
   closed-done =
       let x = pairOf keep remove in
       record {
-        holds =
-            record {
-              «open» = h .held .«open»;
-              sound = sound-bag closed-state (close-sound (rulesOf limit bound) (pairState v f w p q n x) (h .held .sound) x);
-              counted = h .held .counted;
-              young = h .held .young;
-            };
-        within = within-refl _ v f w p q;
-        same-answer = refl;
-        same-state = closed-state;
+        tied = record {
+          holds =
+              record {
+                «open» = h .held .«open»;
+                sound = sound-bag closed-state (close-sound (rulesOf limit bound) (pairState v f w p q n x) (h .held .sound) x);
+                counted = h .held .counted;
+                young = h .held .young;
+              };
+          within = within-refl _ v f w p q;
+          same-answer = refl;
+          same-state = closed-state;
+        };
+        raised = λ y l. sym (add-zero (stamp v f w y));
+        requeued = requeued-none (stampsOf v f w) (entriesIn v f w p q n);
       }
 
 -- what the test says decides which answer is given
@@ -81,9 +93,20 @@ pub tried-before : {v f : ℕ} {w w₁ : List ℕ} {p q : List Float} {n live lo
     But lo hi w w₁ → nearFrom v f ≤ lo → hi ≤ orderFrom v f →
     PairAnswer v f w₁ p q n keep remove limit bound (tried (rulesOf limit bound) (meshOf v f w₁ p q) (pairOf keep remove)) w' p' q' r →
     PairAnswer v f w p q n keep remove limit bound (tried (rulesOf limit bound) (meshOf v f w p q) (pairOf keep remove)) w' p' q' r
-tried-before {v} {f} {w} {w₁} {p} {q} {limit = limit} {bound = bound} {keep = keep} {remove = remove} h but above up done =
-    answer-before (within-but p q but (omega arith)) (rw (pair-state-but (h .held .«open») but above up (pairOf keep remove)) same-refl)
-    (ap (λ (m : Mesh Vertex). tried (rulesOf limit bound) m (pairOf keep remove)) (mesh-but v f p q but (omega arith))) done
+tried-before {v} {f} {w} {w₁} {p} {q} {n} {limit = limit} {bound = bound} {keep = keep} {remove = remove} {w' = w'} {p' = p'} {q' = q'} {r = r} h but above up done =
+    let held = h .held .«open» in
+    let x = pairOf keep remove in
+    let rules = rulesOf limit bound in
+    subst (λ (a : StepAnswer). PairAnswer v f w p q n keep remove limit bound a w' p' q' r)
+    (ap (λ (m : Mesh Vertex). tried rules m x) (mesh-but v f p q but (omega arith)))
+    (record {
+      tied = answer-before (within-but p q but (omega arith)) (rw (pair-state-but held but above up x) same-refl) refl (done .tied);
+      raised = λ y l. done .raised y l ∙ ap (λ (k : ℕ). k + cond (raises (tried rules (meshOf v f w₁ p q) x) y) 1 0) (but .under (stampsFrom v f + y) (omega arith));
+      requeued =
+          subst (λ (es : List StoredEntry). Requeued (stampsOf v f w') es (newEntries limit bound (meshOf v f w' p' q') (stampsOf v f w') (tried rules (meshOf v f w₁ p q) x))
+          (entriesIn v f w' p' q' (r .«open»)))
+          (entries-lists but above up held) (done .requeued);
+    })
 
 -- the pair of the entry that was taken off, as it is read
 module _ (v f : ℕ) (w : List ℕ) (p q : List Float) (n s : ℕ) {bound : Float} {keep remove : ℕ}
@@ -104,21 +127,28 @@ module _ (v f : ℕ) (w : List ℕ) (p q : List Float) (n s : ℕ) {bound : Floa
 module _ {v f : ℕ} {w : List ℕ} {p q : List Float} {n live : ℕ} {bound : Float} (h : HeapHolds v f w p q n live bound) (target : ℕ) (limit : Limit) where
   -- where the answer is the end, the state stays
   ended-done : {w' : List ℕ} {n' : ℕ} → answer (rulesOf limit bound) target (heapState v f w p q n) ≡ ended → HeapHolds v f w' p q n' live bound →
-      StepWithin v f w p q w' p q → SameState (heapState v f w' p q n') (heapState v f w p q n) →
+      StepWithin v f w p q w' p q → SameState (heapState v f w' p q n') (heapState v f w p q n) → ((y : ℕ) → y < v → stamp v f w' y ≡ stamp v f w y) →
+      QueueStep v f w p q n target limit bound w' p q n' ended →
       HeapStepDone v f w p q n target limit bound w' p q (record { step = Ended; «open» = n'; live = live })
   unfolding after
-  ended-done e holds within same = record { holds = holds; within = within; same-answer = sym e; same-state = rw e same }
+  ended-done e holds within same stamps on = record {
+    tied = record { holds = holds; within = within; same-answer = sym e; same-state = rw e same };
+    raised = λ y l. stamps y l ∙ sym (add-zero (stamp v f w y));
+    on-queue = on;
+  }
 
   -- at the target
   pub at-target : live ≤ target → HeapStepDone v f w p q n target limit bound w p q (record { step = Ended; «open» = n; live = live })
   unfolding answer heapState meshOf
-  at-target few = ended-done (rw (le-leb (length (liveFaces f w)) target (omega (arith, h .counted)))) h (within-refl _ v f w p q) same-refl
+  at-target few =
+      ended-done (rw (le-leb (length (liveFaces f w)) target (omega (arith, h .counted)))) h (within-refl _ v f w p q) same-refl (λ y l. refl)
+      (inl (record { few = omega (arith, h .counted); same-w = refl; same-p = refl; same-q = refl; same-n = refl }))
 
   -- with no current entry
   module _ {w' : List ℕ} (gone : NoneLeft v f w q n w') where
     none-same : SameState (heapState v f w' p q 0) (heapState v f w p q n)
     unfolding heapState openIn below those
-    none-same = record { same-mesh = mesh-but v f p q (gone .but) (omega arith); same-open = record { sums = λ g. ap (sum g) (sym (gone .none)) } }
+    none-same = record { same-mesh = mesh-but v f p q (gone .but) (omega arith); same-open = record { sums = λ g. ap (sum g) (sym (none-open gone)) } }
 
     none-fewer : Fewer v f w n w' 0
     unfolding below some
@@ -138,7 +168,9 @@ module _ {v f : ℕ} {w : List ℕ} {p q : List Float} {n live : ℕ} {bound : F
       young = λ x l. rw (gone .but .under (stampsFrom v f + x) (omega arith)) (h .young x l);
     }
 
-    pub none-left : HeapStepDone v f w p q n target limit bound w' p q (record { step = Ended; «open» = 0; live = live })
+    pub none-left : target < live → HeapStepDone v f w p q n target limit bound w' p q (record { step = Ended; «open» = 0; live = live })
     unfolding answer chosen heapState meshOf
-    none-left =
-        ended-done (rw (gone .none) (cond-same (leb (length (liveFaces f w)) target) ended)) none-holds (within-but p q (gone .but) (omega arith)) none-same
+    none-left above =
+        ended-done (rw (none-open gone) (cond-same (leb (length (liveFaces f w)) target) ended)) none-holds (within-but p q (gone .but) (omega arith)) none-same
+        (λ y l. gone .but .under (stampsFrom v f + y) (omega arith))
+        (inr (record { above = omega (arith, h .counted); old = none-current p (h .«open» .queue) (h .«open» .kept .named) gone; none = refl }))

@@ -25,13 +25,18 @@ use Rattle.ring.specs.Contracts.Listing.{isAround, AroundListed}
 use Rattle.openpairs.specs.Contracts.Edges.{openedAround}
 use Rattle.openpairs.specs.Contracts.Waiting.{fits}
 use Rattle.openpairs.proofs.AddLaws.{around-sum, fits-mesh}
+use Rattle.lists.proofs.BagLaws.{bag-map}
 use Rattle.queue.specs.State.{openIn}
-use Rattle.heapwalk.specs.Contracts.Entering.{Open, Entered}
+use Rattle.queue.specs.Stored.{StoredEntry, stampsOf, entriesIn, Requeued}
+use Rattle.queue.proofs.StoredLaws.{stamps-same}
+use Rattle.queue.proofs.RequeuedLaws.{requeued-as}
+use Rattle.heapwalk.specs.Entries.{entryFor}
+use Rattle.heapwalk.specs.Contracts.Entering.{Open, entriesFor, Entered}
 use Rattle.heapwalk.specs.Contracts.Listing.{pairsWith, Enterable, EnteredBeside}
-use Rattle.heapwalk.proofs.QueueFrames.{fits-stays, open-lists, held-lists}
-use Rattle.memory.specs.Layout.{aroundFrom}
+use Rattle.heapwalk.proofs.QueueFrames.{fits-stays, open-lists, held-lists, entries-lists}
+use Rattle.memory.specs.Layout.{aroundFrom, stampsFrom}
 use Rattle.lists.proofs.CondLaws.{cond-and}
-use Rattle.memory.proofs.MeshLaws.{mesh-length}
+use Rattle.memory.proofs.MeshLaws.{mesh-length, mesh-but}
 
 module _ {v f : ℕ} {w w₁ : List ℕ} {p q : List Float} {n : ℕ} {rising : Bool} {x count : ℕ} {bound : Float}
     (held : Open v f w p q n bound) (x-in : x < v) (around : AroundListed v f w rising x w₁ count) where
@@ -93,9 +98,19 @@ module _ {v f : ℕ} {w w₁ : List ℕ} {p q : List Float} {n : ℕ} {rising : 
     );
   }
 
+  -- entries put in once the points are listed are put in from where they were not
+  around-entries : (limit : Limit) {after : List StoredEntry} →
+      Requeued (stampsOf v f w₁) (entriesIn v f w₁ p q n) (entriesFor v f w₁ p q limit bound (pairsWith v f w₁ p q limit bound x (aroundIn v f w₁ count))) after →
+      Requeued (stampsOf v f w) (entriesIn v f w p q n) (entriesFor v f w p q limit bound (openedAround (rulesOf limit bound) (meshOf v f w p q) rising x)) after
+  around-entries limit {after} put =
+      let same-stamps = stamps-same v f w w₁ (λ y l. around .but .under (stampsFrom v f + y) (omega arith)) in
+      let same-mesh = mesh-but v f p q (around .but) (omega arith) in
+      requeued-as (bag-map (record { sums = around-opened limit }) (entryFor limit bound (meshOf v f w p q) (stampsOf v f w)))
+      (rw (same-stamps, same-mesh, entries-lists (around .but) (omega arith) (omega arith) held) at put)
+
   pub around-entered : (limit : Limit) {w' : List ℕ} {p' q' : List Float} {n' : ℕ} →
-      EnteredBeside v f w₁ p q n bound (pairsWith v f w₁ p q limit bound x (aroundIn v f w₁ count)) w' p' q' n' →
-      Entered v f w p q n bound (openedAround (rulesOf limit bound) (meshOf v f w p q) rising x) w' p' q' n'
+      EnteredBeside v f w₁ p q n limit bound (pairsWith v f w₁ p q limit bound x (aroundIn v f w₁ count)) w' p' q' n' →
+      Entered v f w p q n limit bound (openedAround (rulesOf limit bound) (meshOf v f w p q) rising x) w' p' q' n'
   around-entered limit done =
       let put = done .entered .enqueued in
       record {
@@ -108,5 +123,6 @@ module _ {v f : ℕ} {w w₁ : List ℕ} {p q : List Float} {n : ℕ} {rising : 
               put .sums g
               ∙ ap₂ _+_ (ap (λ (ps : List Pair). sum g ps) (open-lists (around .but) (omega arith) (omega arith) held)) (around-opened limit g);
         };
+        requeued = around-entries limit (done .entered .requeued);
         «open» = done .entered .«open»;
       }

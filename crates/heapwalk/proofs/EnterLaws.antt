@@ -3,14 +3,18 @@
 use Prim.Native.Nat.{ℕ, _+_, _*_, _≤_, _<_}
 use native.Mathlib.Numerals.{add-one}
 use native.Mathlib.Omega.{arith}
-use mathlib.Core.Path.{_≡_, refl, sym, ap, _∙_}
+use mathlib.Core.Path.{_≡_, refl, sym, ap, subst, _∙_}
 use mathlib.Core.List.{List, [], _∷_, _++_, map, map-append}
 use mathlib.Core.Bool.{Bool, true, false, cond}
 use lib.Dec.{ltb}
 use lib.Ieee.{Float}
 use lib.ListN.{length, getD, length-map, length-append}
 use borrow.Author.Tests.{ltb-true, lt-ltb}
+use Rattle.geometry.specs.declared.Point.{Point}
 use Rattle.placement.specs.declared.Limit.{Limit}
+use Rattle.placement.specs.declared.pair.Vertex.{Vertex}
+use Rattle.placement.specs.Pairs.{pairPlace, pairCost}
+use Rattle.walk.specs.Faces.{Mesh}
 use Rattle.walk.specs.declared.Pair.{Pair}
 use Rattle.lists.specs.Lists.{sum, those, every, below}
 use Rattle.walk.specs.Pairs.{pairOf}
@@ -21,19 +25,27 @@ use Rattle.mesh.proofs.TidyLaws.{tidy-but}
 use Rattle.lists.proofs.BelowLaws.{length-each, getD-each, sum-partial}
 use Rattle.memory.specs.Memory.{aroundIn}
 use Rattle.openpairs.specs.Contracts.Waiting.{fits}
+use Rattle.lists.proofs.BagLaws.{bag-map}
+use Rattle.memory.specs.Points.{vertexAt, meshOf}
 use Rattle.queue.specs.State.{openIn}
+use Rattle.queue.specs.Stored.{StoredEntry, stampsOf, entriesIn, Requeued}
+use Rattle.queue.proofs.StoredLaws.{stamps-over}
+use Rattle.queue.proofs.RequeuedLaws.{requeued-none, requeued-as, requeued-then}
 use Rattle.queue.specs.Contracts.Queued.{Kept}
 use Rattle.queue.specs.Contracts.Changes.{Pushed}
-use Rattle.heapwalk.specs.Contracts.Entering.{Open, Entered}
+use Rattle.heapwalk.specs.Contracts.Entering.{Open, entriesFor, Entered}
+use Rattle.heapwalk.specs.Entries.{entryFor}
 use Rattle.heapwalk.specs.Contracts.Listing.{pairsWith, Enterable, EnteredBeside}
-use Rattle.heapwalk.proofs.QueueFrames.{fits-stays}
+use Rattle.heapwalk.proofs.QueueFrames.{fits-stays, mesh-stays}
+use Rattle.heapwalk.proofs.EntryForLaws.{entries-current, entry-is}
 use Rattle.memory.specs.Layout.{aroundFrom}
 
 -- ---- one change after another
 
-pub entered-none : {v f : ℕ} {w : List ℕ} {p q : List Float} {n : ℕ} {bound : Float} → Open v f w p q n bound → Entered v f w p q n bound [] w p q n
+pub entered-none : {v f : ℕ} {w : List ℕ} {p q : List Float} {n : ℕ} {limit : Limit} {bound : Float} → Open v f w p q n bound →
+    Entered v f w p q n limit bound [] w p q n
 unfolding sum
-entered-none {w = w} {p = p} {q = q} held = record {
+entered-none {v} {f} {w} {p} {q} {n} held = record {
   enqueued = record {
     but = but-refl _ _ w;
     points-but = floats-refl _ _ p;
@@ -41,15 +53,29 @@ entered-none {w = w} {p = p} {q = q} held = record {
     queue = held .queue;
     sums = λ g. omega arith;
   };
+  requeued = requeued-none (stampsOf v f w) (entriesIn v f w p q n);
   «open» = held;
 }
 
-pub entered-then : {v f : ℕ} {w w' w'' : List ℕ} {p p' p'' q q' q'' : List Float} {n n' n'' : ℕ} {bound : Float} {more more' : List Pair} →
-    Entered v f w p q n bound more w' p' q' n' → Entered v f w' p' q' n' bound more' w'' p'' q'' n'' →
-    Entered v f w p q n bound (more ++ more') w'' p'' q'' n''
-entered-then {more = more} {more' = more'} one two =
+-- the entries of other pairs are those that they would have got before
+entered-entries : {v f : ℕ} {w w' : List ℕ} {p p' q q' : List Float} {n n' : ℕ} {limit : Limit} {bound : Float} {more : List Pair} →
+    Entered v f w p q n limit bound more w' p' q' n' → (after : List StoredEntry) (xs : List Pair) →
+    Requeued (stampsOf v f w') (entriesIn v f w' p' q' n') (entriesFor v f w' p' q' limit bound xs) after →
+    Requeued (stampsOf v f w) (entriesIn v f w' p' q' n') (entriesFor v f w p q limit bound xs) after
+entered-entries {v} {f} {w} {w'} {p} {p'} {q} {q'} {n' = n'} {limit = limit} {bound = bound} one after xs two =
+    let put = one .enqueued in
+    subst (λ (stamps : List ℕ). Requeued stamps (entriesIn v f w' p' q' n') (map (entryFor limit bound (meshOf v f w p q) stamps) xs) after)
+    (stamps-over v f (put .but) (omega arith))
+    (subst (λ (m : Mesh Vertex). Requeued (stampsOf v f w') (entriesIn v f w' p' q' n') (map (entryFor limit bound m (stampsOf v f w')) xs) after)
+    (mesh-stays v f (put .but) (omega arith) (put .points-but) (put .quadrics-but)) two)
+
+pub entered-then : {v f : ℕ} {w w' w'' : List ℕ} {p p' p'' q q' q'' : List Float} {n n' n'' : ℕ} {limit : Limit} {bound : Float} {more more' : List Pair} →
+    Entered v f w p q n limit bound more w' p' q' n' → Entered v f w' p' q' n' limit bound more' w'' p'' q'' n'' →
+    Entered v f w p q n limit bound (more ++ more') w'' p'' q'' n''
+entered-then {v} {f} {w} {w'' = w''} {p = p} {p'' = p''} {q = q} {q'' = q''} {n = n} {n'' = n''} {limit = limit} {bound = bound} {more = more} {more' = more'} one two =
     let first = one .enqueued in
     let second = two .enqueued in
+    let entry = entryFor limit bound (meshOf v f w p q) (stampsOf v f w) in
     record {
       enqueued = record {
         but = but-then (first .but) (second .but);
@@ -58,13 +84,16 @@ entered-then {more = more} {more' = more'} one two =
         queue = second .queue;
         sums = λ g. omega (arith, first .sums g, second .sums g, sum-append g more more');
       };
+      requeued =
+          subst (λ (new : List StoredEntry). Requeued (stampsOf v f w) (entriesIn v f w p q n) new (entriesIn v f w'' p'' q'' n'')) (sym (map-append entry more more'))
+          (requeued-then (one .requeued) (entered-entries one _ more' (two .requeued)) (entries-current limit bound (meshOf v f w p q) (stampsOf v f w) more));
       «open» = two .«open»;
     }
 
 -- the pairs may be listed in another order
-pub entered-as : {v f : ℕ} {w w' : List ℕ} {p p' q q' : List Float} {n n' : ℕ} {bound : Float} {more more' : List Pair} →
-    ((g : Pair → ℕ) → sum g more ≡ sum g more') → Entered v f w p q n bound more w' p' q' n' → Entered v f w p q n bound more' w' p' q' n'
-entered-as {v} {f} {w} {n = n} same one =
+pub entered-as : {v f : ℕ} {w w' : List ℕ} {p p' q q' : List Float} {n n' : ℕ} {limit : Limit} {bound : Float} {more more' : List Pair} →
+    ((g : Pair → ℕ) → sum g more ≡ sum g more') → Entered v f w p q n limit bound more w' p' q' n' → Entered v f w p q n limit bound more' w' p' q' n'
+entered-as {v} {f} {w} {p = p} {q = q} {n = n} {limit = limit} {bound = bound} same one =
     let done = one .enqueued in
     record {
       enqueued = record {
@@ -74,12 +103,13 @@ entered-as {v} {f} {w} {n = n} same one =
         queue = done .queue;
         sums = λ g. done .sums g ∙ ap (λ (k : ℕ). sum g (openIn v f w n) + k) (same g);
       };
+      requeued = requeued-as (bag-map (record { sums = same }) (entryFor limit bound (meshOf v f w p q) (stampsOf v f w))) (one .requeued);
       «open» = one .«open»;
     }
 
 -- how many are open
-pub entered-length : {v f : ℕ} {w w' : List ℕ} {p p' q q' : List Float} {n n' : ℕ} {bound : Float} {more : List Pair} →
-    Entered v f w p q n bound more w' p' q' n' → length (openIn v f w' n') ≡ length (openIn v f w n) + length more
+pub entered-length : {v f : ℕ} {w w' : List ℕ} {p p' q q' : List Float} {n n' : ℕ} {limit : Limit} {bound : Float} {more : List Pair} →
+    Entered v f w p q n limit bound more w' p' q' n' → length (openIn v f w' n') ≡ length (openIn v f w n) + length more
 entered-length {v} {f} {w} {w'} {n = n} {n' = n'} {more = more} one =
     omega (arith, one .enqueued .sums (λ r. 1), sum-length (openIn v f w' n'), sum-length (openIn v f w n), sum-length more)
 
@@ -135,14 +165,18 @@ module _ {v f : ℕ} {w : List ℕ} {p q : List Float} {n : ℕ} {limit : Limit}
       let enough = ready .enough in
       omega (arith, rw (with-one v f w p q limit bound x y true e) at enough)
 
-  pub entered-one : {w' : List ℕ} {p' q' : List Float} {n' : ℕ} → fits v f w p q limit bound x y ≡ true → Pushed v f w p q n x y w' p' q' n' →
-      Kept v f w' p' q' n' bound → EnteredBeside v f w p q n bound (pairsWith v f w p q limit bound x (y ∷ [])) w' p' q' n'
-  entered-one e pushed kept =
+  pub entered-one : {cost : Float} {place : Point} {w' : List ℕ} {p' q' : List Float} {n' : ℕ} → fits v f w p q limit bound x y ≡ true →
+      cost ≡ pairCost bound (vertexAt v f w p q x) (vertexAt v f w p q y) → place ≡ pairPlace bound (vertexAt v f w p q x) (vertexAt v f w p q y) →
+      Pushed v f w p q n x y cost place w' p' q' n' → Kept v f w' p' q' n' bound → EnteredBeside v f w p q n limit bound (pairsWith v f w p q limit bound x (y ∷ [])) w' p' q' n'
+  entered-one {w' = w'} {p' = p'} {q' = q'} {n' = n'} e cost-is place-is pushed kept =
       let done = pushed .enqueued in
       let held = ready .«open» in
       record {
         entered = rw (with-one v f w p q limit bound x y true e) (record {
           enqueued = done;
+          requeued =
+              subst (λ (entry : StoredEntry). Requeued (stampsOf v f w) (entriesIn v f w p q n) (entry ∷ []) (entriesIn v f w' p' q' n'))
+              (entry-is v f w p q limit bound (ready .point) one-point cost-is place-is) (pushed .requeued);
           «open» = record {
             tidy = tidy-but (omega arith) (done .but) (held .tidy);
             places-long = omega (arith, held .places-long, done .points-but .same-length);
@@ -153,19 +187,19 @@ module _ {v f : ℕ} {w : List ℕ} {p q : List Float} {n : ℕ} {limit : Limit}
         lists-same = pushed .lists-same;
       }
 
-  pub entered-not : fits v f w p q limit bound x y ≡ false → EnteredBeside v f w p q n bound (pairsWith v f w p q limit bound x (y ∷ [])) w p q n
+  pub entered-not : fits v f w p q limit bound x y ≡ false → EnteredBeside v f w p q n limit bound (pairsWith v f w p q limit bound x (y ∷ [])) w p q n
   entered-not e = record { entered = rw (with-one v f w p q limit bound x y false e) (entered-none (ready .«open»)); lists-same = λ i l m. refl }
 
 -- ---- the listed points, one after another
 
 module _ {v f : ℕ} {w₀ : List ℕ} {p₀ q₀ : List Float} {n₀ : ℕ} {limit : Limit} {bound : Float} {x count : ℕ}
     (ready : Enterable v f w₀ p₀ q₀ n₀ limit bound x (aroundIn v f w₀ count)) (few : count ≤ v) where
-  pub listed-none : EnteredBeside v f w₀ p₀ q₀ n₀ bound (pairsWith v f w₀ p₀ q₀ limit bound x (aroundIn v f w₀ 0)) w₀ p₀ q₀ n₀
+  pub listed-none : EnteredBeside v f w₀ p₀ q₀ n₀ limit bound (pairsWith v f w₀ p₀ q₀ limit bound x (aroundIn v f w₀ 0)) w₀ p₀ q₀ n₀
   unfolding below those
   listed-none = record { entered = entered-none (ready .«open»); lists-same = λ i l m. refl }
 
   module _ {w : List ℕ} {p q : List Float} {n i : ℕ}
-      (so-far : EnteredBeside v f w₀ p₀ q₀ n₀ bound (pairsWith v f w₀ p₀ q₀ limit bound x (aroundIn v f w₀ i)) w p q n) (inside : i < count) where
+      (so-far : EnteredBeside v f w₀ p₀ q₀ n₀ limit bound (pairsWith v f w₀ p₀ q₀ limit bound x (aroundIn v f w₀ i)) w p q n) (inside : i < count) where
     -- the point is the one that was listed
     turn-point : getD w (aroundFrom v f + i) 0 ≡ getD w₀ (aroundFrom v f + i) 0
     turn-point = so-far .lists-same (aroundFrom v f + i) (omega arith) (omega arith)
@@ -206,8 +240,8 @@ module _ {v f : ℕ} {w₀ : List ℕ} {p₀ q₀ : List Float} {n₀ : ℕ} {li
       }
 
       pub turn-done : {w' : List ℕ} {p' q' : List Float} {n' : ℕ} →
-          EnteredBeside v f w p q n bound (pairsWith v f w p q limit bound x (y ∷ [])) w' p' q' n' →
-          EnteredBeside v f w₀ p₀ q₀ n₀ bound (pairsWith v f w₀ p₀ q₀ limit bound x (aroundIn v f w₀ (i + 1))) w' p' q' n'
+          EnteredBeside v f w p q n limit bound (pairsWith v f w p q limit bound x (y ∷ [])) w' p' q' n' →
+          EnteredBeside v f w₀ p₀ q₀ n₀ limit bound (pairsWith v f w₀ p₀ q₀ limit bound x (aroundIn v f w₀ (i + 1))) w' p' q' n'
       turn-done turn = record {
         entered = rw (with-next v f w₀ p₀ q₀ limit bound x i) (entered-then (so-far .entered) (rw turn-with at (turn .entered)));
         lists-same = λ j l m. turn .lists-same j l m ∙ so-far .lists-same j l m;

@@ -35,6 +35,9 @@ use Rattle.openpairs.specs.Contracts.Edges.{openedAround}
 use Rattle.folding.specs.Contracts.Folds.{MeshFolded}
 use Rattle.memory.specs.Entries.{slotAt, stamp}
 use Rattle.queue.specs.State.{openIn, heapState}
+use Rattle.queue.specs.Stored.{stampsOf, entriesIn, Requeued}
+use Rattle.queue.proofs.StoredLaws.{stamps-over, entries-moved}
+use Rattle.heapwalk.specs.Entries.{newEntries}
 use Rattle.heapwalk.specs.Contracts.Entering.{Open, Entered}
 use Rattle.plainwalk.specs.declared.Step.the-variants.{Folded}
 use Rattle.walk.proofs.StateLaws.{sound-bag}
@@ -157,7 +160,7 @@ module _ {v f : ℕ} {w : List ℕ} {p q : List Float} {n live : ℕ} {limit : L
         )
 
     module _ {w₄ : List ℕ} {p₄ q₄ : List Float} {more : ℕ}
-        (enter : Entered v f w₃ p' q' n bound (openedAround (rulesOf limit bound) (meshOf v f w₃ p' q') false keep) w₄ p₄ q₄ more) where
+        (enter : Entered v f w₃ p' q' n limit bound (openedAround (rulesOf limit bound) (meshOf v f w₃ p' q') false keep) w₄ p₄ q₄ more) where
       -- the state after the fold is the plain walk's
       folded-state : SameState (heapState v f w₄ p₄ q₄ more)
           (after (rulesOf limit bound) (pairState v f w p q n (pairOf keep remove)) (folded (pairOf keep remove)))
@@ -211,21 +214,35 @@ module _ {v f : ℕ} {w : List ℕ} {p q : List Float} {n live : ℕ} {limit : L
             pair-shared h,
           )
 
+      -- the entries that were queued, and those of the pairs that it opens
+      folded-entries : Requeued (stampsOf v f w₄) (entriesIn v f w p q n)
+          (newEntries limit bound (meshOf v f w₄ p₄ q₄) (stampsOf v f w₄) (folded (pairOf keep remove))) (entriesIn v f w₄ p₄ q₄ more)
+      folded-entries =
+          let into = enter .enqueued in
+          let same-stamps = stamps-over v f (into .but) (omega arith) in
+          let same-mesh = mesh-but v f p₄ q₄ (into .but) (omega arith) ∙ mesh-floats v f w₃ (into .points-but) (into .quadrics-but) in
+          let same-entries = entries-moved fold-moved (h .held .«open» .queue) (stamped-open .queue) order-same in
+          rw (same-stamps, same-mesh, ← same-entries) (enter .requeued)
+
       pub folded-done : PairAnswer v f w p q n keep remove limit bound (folded (pairOf keep remove)) w₄ p₄ q₄
           (record { step = Folded (pairOf keep remove); «open» = more; live = live - gone })
       folded-done =
           let x = pairOf keep remove in
           record {
-            holds =
-                record {
-                  «open» = enter .«open»;
-                  sound = sound-bag folded-state (fold-sound (rulesOf limit bound) (pairState v f w p q n x) (h .held .sound) x (pair-open h));
-                  counted =
-                      let left : live - gone ≡ length (liveFaces f w₁) = omega (arith, left-live) in
-                      left ∙ sym (ap length (live-faces-but f (enter .enqueued .but) (omega arith) ∙ live-faces-but f stamps-but (omega arith)));
-                  young = still-young;
-                };
-            within = folded-within;
-            same-answer = refl;
-            same-state = folded-state;
+            tied = record {
+              holds =
+                  record {
+                    «open» = enter .«open»;
+                    sound = sound-bag folded-state (fold-sound (rulesOf limit bound) (pairState v f w p q n x) (h .held .sound) x (pair-open h));
+                    counted =
+                        let left : live - gone ≡ length (liveFaces f w₁) = omega (arith, left-live) in
+                        left ∙ sym (ap length (live-faces-but f (enter .enqueued .but) (omega arith) ∙ live-faces-but f stamps-but (omega arith)));
+                    young = still-young;
+                  };
+              within = folded-within;
+              same-answer = refl;
+              same-state = folded-state;
+            };
+            raised = λ y l. enter .enqueued .but .under (stampsFrom v f + y) (omega arith) ∙ stamps-are y l;
+            requeued = folded-entries;
           }

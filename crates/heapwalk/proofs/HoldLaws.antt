@@ -68,7 +68,9 @@ byHeap v f bound = record {
 pub heap-step : {v f : ℕ} {w : List ℕ} {p q : List Float} {n live target : ℕ} {limit : Limit} {bound : Float} {w' : List ℕ} {p' q' : List Float} {r : Stepped} →
     HeapStepDone v f w p q n target limit bound w' p' q' r →
     Taken (byHeap v f bound) target limit bound (lent w p q n live) (lent w' p' q' (r .«open») (r .live)) (r .step)
-heap-step done = record { holds = done .holds; within = done .within; same-answer = done .same-answer; same-state = done .same-state }
+heap-step done =
+    let tied = done .tied in
+    record { holds = tied .holds; within = tied .within; same-answer = tied .same-answer; same-state = tied .same-state }
 
 -- ---- from the start
 

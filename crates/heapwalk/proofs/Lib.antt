@@ -1,5 +1,6 @@
 -- Laws of the heap walk in memory, leaves first.
 pub mod QueueFrames
+pub mod EntryForLaws
 pub mod EnterLaws
 pub mod AroundLaws
 pub mod StartLaws

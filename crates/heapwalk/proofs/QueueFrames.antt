@@ -18,6 +18,8 @@ use Rattle.memory.specs.Entries.{slotAt}
 use Rattle.memory.specs.Layout.{foldsFrom, kindsFrom, marksFrom, nearFrom, orderFrom}
 use Rattle.openpairs.specs.Contracts.Waiting.{fits}
 use Rattle.queue.specs.State.{openIn}
+use Rattle.queue.specs.Stored.{entriesIn}
+use Rattle.queue.proofs.StoredLaws.{entries-moved}
 use Rattle.queue.proofs.MovedLaws.{Moved, untouched, moved-but, moved-folds, queue-moved, kept-same, open-same}
 use Rattle.heapwalk.specs.Contracts.Entering.{Open}
 
@@ -65,6 +67,9 @@ module _ {v f lo hi : ℕ} {w w' : List ℕ} {p q : List Float} {n : ℕ} {bound
 
   pub held-lists : Open v f w' p q n bound
   held-lists = held-moved but low (moved-but p q but low (omega arith)) order-lists held
+
+  pub entries-lists : entriesIn v f w' p q n ≡ entriesIn v f w p q n
+  entries-lists = entries-moved (moved-but p q but low (omega arith)) (held .queue) (held-lists .queue) order-lists
 
 -- folds are written down, and nothing else changes
 module _ {v f lo hi : ℕ} {w w' : List ℕ} {p q : List Float} {n : ℕ} {bound : Float}

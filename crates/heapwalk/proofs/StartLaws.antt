@@ -58,12 +58,12 @@ module _ {v f : ℕ} {w w₀ : List ℕ} {p q : List Float} (tidy : Tidy v f w) 
     };
   }
 
-  pub starting-none : Entered v f w₀ p q 0 bound (risingBelow v f w₀ p q limit bound 0) w₀ p q 0
+  pub starting-none : Entered v f w₀ p q 0 limit bound (risingBelow v f w₀ p q limit bound 0) w₀ p q 0
   unfolding below flatMap
   starting-none = entered-none emptied-open
 
   module _ (x : ℕ) {w' : List ℕ} {p' q' : List Float} {n : ℕ}
-      (done : Entered v f w₀ p q 0 bound (risingBelow v f w₀ p q limit bound x) w' p' q' n) where
+      (done : Entered v f w₀ p q 0 limit bound (risingBelow v f w₀ p q limit bound x) w' p' q' n) where
     -- the mesh is as it was
     same-mesh : meshOf v f w' p' q' ≡ meshOf v f w₀ p q
     same-mesh = let put = done .enqueued in mesh-stays v f (put .but) (omega arith) (put .points-but) (put .quadrics-but)
@@ -92,8 +92,8 @@ module _ {v f : ℕ} {w w₀ : List ℕ} {p q : List Float} (tidy : Tidy v f w) 
         ))
 
     pub starting-next : {w'' : List ℕ} {p'' q'' : List Float} {n' : ℕ} →
-        Entered v f w' p' q' n bound (risingFrom (rulesOf limit bound) (meshOf v f w' p' q') x) w'' p'' q'' n' →
-        Entered v f w₀ p q 0 bound (risingBelow v f w₀ p q limit bound (x + 1)) w'' p'' q'' n'
+        Entered v f w' p' q' n limit bound (risingFrom (rulesOf limit bound) (meshOf v f w' p' q') x) w'' p'' q'' n' →
+        Entered v f w₀ p q 0 limit bound (risingBelow v f w₀ p q limit bound (x + 1)) w'' p'' q'' n'
     starting-next turn =
         let from = risingFrom (rulesOf limit bound) (meshOf v f w₀ p q) in
         entered-as

@@ -1,10 +1,10 @@
 -- The first current entry is taken off the queue: its pair is the least open one, so the answer is the plain walk's.
 -- Assumes nothing.
-use Prim.Native.Nat.{ℕ, _+_, _≤_, _<_}
+use Prim.Native.Nat.{ℕ, _+_, _*_, _≤_, _<_}
 use native.Mathlib.Nat.{add-comm}
 use native.Mathlib.Omega.{arith}
-use mathlib.Core.Path.{_≡_, sym, ap, ap₂, _∙_}
-use mathlib.Core.List.{List}
+use mathlib.Core.Path.{_≡_, refl, sym, ap, ap₂, subst, _∙_}
+use mathlib.Core.List.{List, map}
 use mathlib.Core.Bool.{Bool, true, false, not, _&&_, _||_, cond}
 use mathlib.Mathlib.Data.Bool.Basic.{and-elim-left, and-elim-right, and-intro}
 use lib.Dec.{leb}
@@ -15,9 +15,11 @@ use Rattle.placement.specs.declared.Limit.{Limit}
 use Rattle.walk.specs.declared.Pair.{Pair}
 use Rattle.lists.specs.Lists.{sum, count}
 use Rattle.walk.specs.Pairs.{samePair, order}
-use Rattle.walk.specs.Walk.{tried, answer, SameState}
+use Rattle.walk.specs.Faces.{Rules, Mesh}
+use Rattle.walk.specs.FoldTest.{allowed}
+use Rattle.walk.specs.Walk.{StepAnswer, folded, closed, tried, answer, SameState}
 use Rattle.lists.proofs.TestLaws.{by-test}
-use Rattle.lists.proofs.EveryLaws.{some-count, every-kept}
+use Rattle.lists.proofs.EveryLaws.{some-count, every-kept, every-tail}
 use Rattle.walk.proofs.SamePairs.{pair-path, same-self}
 use Rattle.walk.proofs.LeastLaws.{notAbove, IsLeast, chosen-is}
 use Rattle.walk.proofs.BagWalk.{sound-fitting}
@@ -35,10 +37,18 @@ use Rattle.queue.specs.State.{isCurrent, isQueued, openIn, heapState}
 use Rattle.queue.specs.declared.Taken.{Taken}
 use Rattle.queue.specs.declared.Taken.the-variants.{Entry, Empty}
 use Rattle.queue.specs.Contracts.Changes.{TakenOff, NoneLeft, TookCurrent}
+use Rattle.queue.specs.Stored.{stampsOf, entryIn, entriesIn, Requeued}
+use Rattle.queue.specs.Contracts.Queued.{Queue}
+use Rattle.queue.proofs.StoredLaws.{stamps-over}
+use Rattle.queue.proofs.LostLaws.{lost-queued, lost-entries, queued-old}
+use Rattle.queue.proofs.TakeLaws.{taken-queued, taken-slot, taken-fewer, taken-sums}
+use Rattle.queue.proofs.TopLaws.{top-least}
 use Rattle.plainwalk.specs.declared.Stepped.{Stepped}
+use Rattle.plainwalk.specs.Steps.{answerOf}
+use Rattle.heapwalk.specs.Entries.{newEntries, raises}
 use Rattle.walk.proofs.StateLaws.{sound-bag}
 use Rattle.plainwalk.proofs.MemoryLaws.{within-but}
-use Rattle.heapwalk.specs.Steps.{pairState, topState, HeapHolds, TopHolds, TopTried, HeapStepDone}
+use Rattle.heapwalk.specs.Steps.{pairState, topState, HeapHolds, TopHolds, TopTried, StampsRaised, PairTaken, QueueStep, HeapStepDone}
 use Rattle.lists.proofs.BelowLaws.{every-below}
 use Rattle.queue.proofs.OrderLaws.{place-queued}
 use Rattle.queue.proofs.MovedLaws.{Moved, moved-but, kept-moved}
@@ -53,6 +63,22 @@ module _ {v f : ℕ} {w : List ℕ} {q : List Float} {n : ℕ} {w' : List ℕ} {
   pub took-none : r ≡ Empty → TookCurrent v f w q n w' r → NoneLeft v f w q n w'
   took-none e took = rw e at took
 
+-- a pair that is tried is folded or closed, by the fold test
+tried-is : {D : Type 0} (rules : Rules D) (m : Mesh D) (x : Pair) → tried rules m x ≡ cond (allowed rules m x) (folded x) (closed x)
+unfolding tried
+tried-is rules m x = refl
+
+-- either way the step has taken that pair off the queue
+queue-step : (v f : ℕ) (w : List ℕ) (p q : List Float) (n target : ℕ) (limit : Limit) (bound : Float) (w' : List ℕ) (p' q' : List Float) (n' : ℕ) (x : Pair)
+    (passed : Bool) {a : StepAnswer} → a ≡ cond passed (folded x) (closed x) → PairTaken v f w p q n target limit bound x a w' p' q' n' →
+    QueueStep v f w p q n target limit bound w' p' q' n' a
+queue-step v f w p q n target limit bound w' p' q' n' x true e taken =
+    subst (λ (a : StepAnswer). QueueStep v f w p q n target limit bound w' p' q' n' a) (sym e)
+    (subst (λ (a : StepAnswer). PairTaken v f w p q n target limit bound x a w' p' q' n') e taken)
+queue-step v f w p q n target limit bound w' p' q' n' x false e taken =
+    subst (λ (a : StepAnswer). QueueStep v f w p q n target limit bound w' p' q' n' a) (sym e)
+    (subst (λ (a : StepAnswer). PairTaken v f w p q n target limit bound x a w' p' q' n') e taken)
+
 module _ {v f : ℕ} {w : List ℕ} {p q : List Float} {n live : ℕ} {bound : Float} (h : HeapHolds v f w p q n live bound) (target : ℕ) (limit : Limit) where
   -- what a current entry is compared by is its pair's place in the walk's order
   order-rank-in : (t : ℕ) → isQueued v f w n t ≡ true → isCurrent v f w t ≡ true →
@@ -66,8 +92,20 @@ module _ {v f : ℕ} {w : List ℕ} {p q : List Float} {n live : ℕ} {bound : F
     taken-moved : Moved v f w p q w' p q (λ x. false)
     taken-moved = moved-but p q (taken .but) (omega arith) (omega arith)
 
+    queue : Queue v f w q n
+    queue = h .«open» .queue
+
+    was-queued : isQueued v f w n s ≡ true
+    was-queued = taken-queued queue (h .«open» .kept .named) taken
+
+    slot : s < 3 * f
+    slot = taken-slot queue (h .«open» .kept .named) taken
+
+    sums : (g : Pair → ℕ) → sum g (openIn v f w' left) + g (pairAt v f w s) ≡ sum g (openIn v f w n)
+    sums = taken-sums queue (h .«open» .kept .named) taken
+
     pair-stays : pairAt v f w' s ≡ pairAt v f w s
-    pair-stays = pair-path (taken-moved .keeps s (taken .slot)) (taken-moved .removes s (taken .slot))
+    pair-stays = pair-path (taken-moved .keeps s slot) (taken-moved .removes s slot)
 
     -- its pair and those of the rest are the pairs that were open
     top-state : SameState (topState v f w' p q left s) (heapState v f w p q n)
@@ -79,14 +117,14 @@ module _ {v f : ℕ} {w : List ℕ} {p q : List Float} {n live : ℕ} {bound : F
             sums = λ g.
                 ap (λ (x : Pair). g x + sum g (openIn v f w' left)) pair-stays
                 ∙ add-comm (g (pairAt v f w s)) (sum g (openIn v f w' left))
-                ∙ taken .sums g;
+                ∙ sums g;
           };
     }
 
     pub top-holds : TopHolds v f w' p q left live bound s
     top-holds =
         let kept = h .«open» .kept in
-        let named = kept .named s (taken .was-queued) in
+        let named = kept .named s was-queued in
         record {
           held =
               record {
@@ -95,20 +133,20 @@ module _ {v f : ℕ} {w : List ℕ} {p q : List Float} {n live : ℕ} {bound : F
                       tidy = tidy-but (omega arith) (taken .but) (h .«open» .tidy);
                       places-long = h .«open» .places-long;
                       queue = taken .queue;
-                      kept = kept-moved taken-moved (h .«open» .queue) kept (taken .fewer);
+                      kept = kept-moved taken-moved (h .«open» .queue) kept (taken-fewer queue (h .«open» .kept .named) taken);
                     };
                 sound = sound-bag top-state (h .sound);
                 counted = h .counted ∙ ap length (sym (live-faces-but f (taken .but) (omega arith)));
                 young = λ x l. rw (taken .but .under (stampsFrom v f + x) (omega arith)) (h .young x l);
               };
-          slot = taken .slot;
+          slot = slot;
           place =
               rw (
-                taken-moved .keeps s (taken .slot),
-                taken-moved .removes s (taken .slot),
+                taken-moved .keeps s slot,
+                taken-moved .removes s slot,
                 vertex-but v f p q (taken .but) (omega arith) (pairAt v f w s .keep) (named .0),
                 vertex-but v f p q (taken .but) (omega arith) (pairAt v f w s .remove) (named .1),
-              ) (kept .place s (taken .was-queued) (taken .current));
+              ) (kept .place s was-queued (taken .current));
         }
 
     -- no current entry comes before it
@@ -117,7 +155,7 @@ module _ {v f : ℕ} {w : List ℕ} {p q : List Float} {n live : ℕ} {bound : F
     not-above t e now low =
         let m = meshOf v f w p q in
         le-leb (order (rulesOf limit bound) m (pairAt v f w s)) (order (rulesOf limit bound) m (pairAt v f w t))
-        (rw (order-rank-in s (taken .was-queued) (taken .current), order-rank-in t e now) low)
+        (rw (order-rank-in s was-queued (taken .current), order-rank-in t e now) low)
 
     -- an entry that is old or does not come before it
     abbrev follows : ℕ → Bool
@@ -134,7 +172,7 @@ module _ {v f : ℕ} {w : List ℕ} {p q : List Float} {n live : ℕ} {bound : F
     least-taken =
         let x = pairAt v f w s in
         let more : count (samePair x) (openIn v f w' left) + 1 ≡ count (samePair x) (openIn v f w n) =
-        rw (same-self x) at (taken .sums (λ y. cond (samePair x y) 1 0)) in
+        rw (same-self x) at (sums (λ y. cond (samePair x y) 1 0)) in
         record {
           member = some-count (samePair x) (openIn v f w n) ∙ lt-ltb 0 (count (samePair x) (openIn v f w n)) (omega arith);
           lowest =
@@ -154,8 +192,46 @@ module _ {v f : ℕ} {w : List ℕ} {p q : List Float} {n live : ℕ} {bound : F
         (chosen-is (rulesOf limit bound) (meshOf v f w p q) (openIn v f w n)
         (sound-fitting (h .sound) (omega (arith, mesh-length v f w p q, h .«open» .tidy .room))) least-taken)
 
+    -- ---- what became of the queue
+
+    -- its stamps stay
+    stamps-taken : stampsOf v f w' ≡ stampsOf v f w
+    stamps-taken = stamps-over v f (taken .but) (omega arith)
+
+    -- the answer is the pair of the least current entry, and the entries over it were old
+    pair-taken : target < live → {a : StepAnswer} {w'' : List ℕ} {p'' q'' : List Float} {n'' : ℕ} →
+        Requeued (stampsOf v f w'') (entriesIn v f w' p q left) (newEntries limit bound (meshOf v f w'' p'' q'') (stampsOf v f w'') a) (entriesIn v f w'' p'' q'' n'') →
+        PairTaken v f w p q n target limit bound (pairAt v f w s) a w'' p'' q'' n''
+    pair-taken above requeued =
+        let named = h .«open» .kept .named in
+        record {
+          above = omega (arith, h .counted);
+          top = entryIn v f w p q s;
+          same-pair = refl;
+          least = top-least p queue named taken;
+          passed = map (entryIn v f w p q) (taken .passed);
+          passed-old = queued-old p (taken .passed) queue named (every-tail (isQueued v f w n) s (taken .passed) (lost-queued (taken .lost))) (taken .old);
+          left = entriesIn v f w' p q left;
+          taken = lost-entries p (taken .lost) (taken .queue) (taken .but);
+          requeued = requeued;
+        }
+
     pub taken-step : target < live → {w'' : List ℕ} {p'' q'' : List Float} {r : Stepped} →
         TopTried v f w' p q left s limit bound w'' p'' q'' r → HeapStepDone v f w p q n target limit bound w'' p'' q'' r
-    taken-step above done =
-        answer-before (within-but p q (taken .but) (omega arith)) top-state
-        (ap₂ (tried (rulesOf limit bound)) (mesh-but v f p q (taken .but) (omega arith)) pair-stays ∙ sym (answer-taken above)) done
+    taken-step above {w''} {p''} {q''} {r} done =
+        let rules = rulesOf limit bound in
+        let x = pairAt v f w s in
+        let same = ap₂ (tried rules) (mesh-but v f p q (taken .but) (omega arith)) pair-stays in
+        let told : answerOf (r .step) ≡ tried rules (meshOf v f w p q) x = done .tied .same-answer ∙ same in
+        record {
+          tied = answer-before (within-but p q (taken .but) (omega arith)) top-state (same ∙ sym (answer-taken above)) (done .tied);
+          raised =
+              subst (λ (a : StepAnswer). StampsRaised v f w a w'') (sym (done .tied .same-answer))
+              (λ y l. done .raised y l ∙ ap (λ (k : ℕ). k + cond (raises (tried rules (meshOf v f w' p q) (pairAt v f w' s)) y) 1 0) (taken .but .under (stampsFrom v f + y) (omega arith)));
+          on-queue =
+              queue-step v f w p q n target limit bound w'' p'' q'' (r .«open») x (allowed rules (meshOf v f w p q) x) (told ∙ tried-is rules (meshOf v f w p q) x)
+              (pair-taken above
+              (subst (λ (a : StepAnswer). Requeued (stampsOf v f w'') (entriesIn v f w' p q left) (newEntries limit bound (meshOf v f w'' p'' q'') (stampsOf v f w'') a)
+              (entriesIn v f w'' p'' q'' (r .«open»)))
+              (sym (done .tied .same-answer)) (done .requeued)));
+        }

@@ -53,12 +53,12 @@ module _ {v f : ℕ} {w u : List ℕ} {p q a b : List Float} {n m live : ℕ} (t
 
   -- from the same state both steps give the same answer
   pub same-step : answerOf (r .step) ≡ answerOf (s .step)
-  same-step = heap .same-answer ∙ plain-alike (rulesOf limit bound) target f .same-answer fit same ∙ sym (plain .same-answer)
+  same-step = heap .tied .same-answer ∙ plain-alike (rulesOf limit bound) target f .same-answer fit same ∙ sym (plain .same-answer)
 
   -- and come to the same state
   pub same-state-after : SameState (heapState v f w' p' q' (r .«open»)) (stateOf v f u' a' b' (s .«open»))
   same-state-after =
-      same-trans (heap .same-state)
+      same-trans (heap .tied .same-state)
       (same-trans (plain-alike (rulesOf limit bound) target f .same-step fit same)
       (record { same-mesh = sym (plain .same-state .same-mesh); same-open = bag-sym (plain .same-state .same-open) }))
 

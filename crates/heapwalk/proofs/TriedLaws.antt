@@ -53,7 +53,7 @@ module _ {v f : ℕ} {w : List ℕ} {p q : List Float} {n live : ℕ} {limit : L
       made-open = (stamped-open listed-holds (made .came .1) one two, room-left listed-holds (made .came .1) one two)
 
       pub made-done : {w₄ : List ℕ} {p₄ q₄ : List Float} {more : ℕ} →
-          Entered v f w₃ p' q' n bound (openedAround (rulesOf limit bound) (meshOf v f w₃ p' q') false keep) w₄ p₄ q₄ more →
+          Entered v f w₃ p' q' n limit bound (openedAround (rulesOf limit bound) (meshOf v f w₃ p' q') false keep) w₄ p₄ q₄ more →
           PairAnswer v f w p q n keep remove limit bound (tried (rulesOf limit bound) (meshOf v f w p q) (pairOf keep remove)) w₄ p₄ q₄
           (record { step = Folded (pairOf keep remove); «open» = more; live = live - gone })
       made-done enter =

@@ -31,7 +31,7 @@ fn enter_pair(
     bounds: Bounds,
 ) -> usize
     requires { ⌜ Enterable v f (now w) (now p) (now q) n (bounds .limit) (bounds .size) x (y ∷ []) ⌝ }
-    ensures { λ r. ⌜ EnteredBeside v f (now (w .entry)) (now (p .entry)) (now (q .entry)) n (bounds .size) (pairsWith v f (now (w .entry)) (now (p .entry)) (now (q .entry)) (bounds .limit) (bounds .size) x (y ∷ [])) (now (w .exit)) (now (p .exit)) (now (q .exit)) r ⌝ }
+    ensures { λ r. ⌜ EnteredBeside v f (now (w .entry)) (now (p .entry)) (now (q .entry)) n (bounds .limit) (bounds .size) (pairsWith v f (now (w .entry)) (now (p .entry)) (now (q .entry)) (bounds .limit) (bounds .size) x (y ∷ [])) (now (w .exit)) (now (p .exit)) (now (q .exit)) r ⌝ }
 {
     let stays = vertex_at(w, p, q, v, f, x as usize);
     let goes = vertex_at(w, p, q, v, f, y as usize);
@@ -62,7 +62,7 @@ fn enter_listed(
     bounds: Bounds,
 ) -> usize
     requires { ⌜ Enterable v f (now w) (now p) (now q) n (bounds .limit) (bounds .size) x (aroundIn v f (now w) count) ⌝ ∗ ⌜ count ≤ v ⌝ }
-    ensures { λ r. ⌜ EnteredBeside v f (now (w .entry)) (now (p .entry)) (now (q .entry)) n (bounds .size) (pairsWith v f (now (w .entry)) (now (p .entry)) (now (q .entry)) (bounds .limit) (bounds .size) x (aroundIn v f (now (w .entry)) count)) (now (w .exit)) (now (p .exit)) (now (q .exit)) r ⌝ }
+    ensures { λ r. ⌜ EnteredBeside v f (now (w .entry)) (now (p .entry)) (now (q .entry)) n (bounds .limit) (bounds .size) (pairsWith v f (now (w .entry)) (now (p .entry)) (now (q .entry)) (bounds .limit) (bounds .size) x (aroundIn v f (now (w .entry)) count)) (now (w .exit)) (now (p .exit)) (now (q .exit)) r ⌝ }
 {
     let mut entries = n;
     let mut i = 0;
@@ -88,7 +88,7 @@ pub fn enter_around(
 ) -> usize
     requires { ⌜ Open v f (now w) (now p) (now q) n (bounds .size) ⌝ ∗ ⌜ x < v ⌝ }
     requires { ⌜ length (openIn v f (now w) n) + length (openedAround (rulesOf (bounds .limit) (bounds .size)) (meshOf v f (now w) (now p) (now q)) rising x) ≤ 3 * f ⌝ }
-    ensures { λ r. ⌜ Entered v f (now (w .entry)) (now (p .entry)) (now (q .entry)) n (bounds .size) (openedAround (rulesOf (bounds .limit) (bounds .size)) (meshOf v f (now (w .entry)) (now (p .entry)) (now (q .entry))) rising x) (now (w .exit)) (now (p .exit)) (now (q .exit)) r ⌝ }
+    ensures { λ r. ⌜ Entered v f (now (w .entry)) (now (p .entry)) (now (q .entry)) n (bounds .limit) (bounds .size) (openedAround (rulesOf (bounds .limit) (bounds .size)) (meshOf v f (now (w .entry)) (now (p .entry)) (now (q .entry))) rising x) (now (w .exit)) (now (p .exit)) (now (q .exit)) r ⌝ }
 {
     let count = ring::list_around(w, v, f, rising, x);
     enter_listed(w, p, q, v, f, n, x, count, bounds)

@@ -1,11 +1,11 @@
 -- Putting an entry into the queue: room is made, the entry is written into the free slot, and its slot is sifted up.
 -- Assumes nothing.
 use Prim.Native.Nat.{ℕ, _+_, _*_, _-_, _/_, _≤_, _<_}
-use native.Mathlib.Nat.{le-refl, le-of-eq}
+use native.Mathlib.Nat.{add-zero, le-refl, le-of-eq}
 use native.Mathlib.Omega.{arith}
 use mathlib.Core.Path.{_≡_, sym, ap, ap₂, subst, _∙_}
 use mathlib.Core.Logic.{_≢_}
-use mathlib.Core.List.{List}
+use mathlib.Core.List.{List, [], _∷_, _++_, map, map-append}
 use mathlib.Core.Bool.{Bool, true, cond}
 use lib.Dec.{eqb}
 use lib.Ieee.{Float}
@@ -15,7 +15,8 @@ use Rattle.placement.specs.Pairs.{pairPlace, pairCost}
 use Rattle.walk.specs.declared.Pair.{Pair}
 use Rattle.lists.specs.Lists.{sum, below, SameBag}
 use Rattle.walk.specs.Pairs.{pairOf}
-use Rattle.lists.proofs.BagLaws.{bag-some}
+use Rattle.lists.proofs.SumLaws.{sum-append, sum-map}
+use Rattle.lists.proofs.BagLaws.{bag-some, bag-map}
 use Rattle.lists.specs.Frames.{But}
 use Rattle.lists.proofs.BelowLaws.{map-same-below}
 use Rattle.lists.proofs.FrameLaws.{but-refl, but-widen}
@@ -24,12 +25,15 @@ use Rattle.memory.specs.Entries.{pairAt, slotAt, queued, costIn, stamp, keepSta
 use Rattle.queue.specs.Contracts.Ranks.{rankIn, rankAt, HeapFrom}
 use Rattle.queue.specs.Contracts.Order.{Slotted, Sifted}
 use Rattle.queue.specs.State.{isCurrent, isQueued, openIn}
+use Rattle.queue.specs.Stored.{StoredEntry, stampsOf, entryIn, entriesIn, Requeued}
 use Rattle.queue.specs.Contracts.Queued.{Queue, QueueNamed, Kept}
-use Rattle.queue.specs.Contracts.Changes.{Pushed}
+use Rattle.queue.specs.Contracts.Changes.{Fewer, Pushed}
 use Rattle.queue.specs.Contracts.Pushing.{RoomMade, EntryPut}
 use Rattle.queue.proofs.OrderLaws.{sum-members, place-queued, queued-slot, sifted-sums}
 use Rattle.queue.proofs.RootLaws.{queued-next}
 use Rattle.queue.proofs.EntryLaws.{weighed, open-sum, order-moved, room-but}
+use Rattle.queue.proofs.StoredLaws.{entry-path}
+use Rattle.queue.proofs.LostLaws.{lost-fewer, lost-queued, lost-open, queued-old, old-weigh}
 use Rattle.queue.proofs.PushLawsSlots.{one-of-more, slots-below, other-slot}
 use Rattle.queue.proofs.MovedLaws.{holds-slot, pair-moved}
 use Rattle.memory.specs.Layout.{keepStampsFrom, orderFrom, placesTo}
@@ -127,6 +131,9 @@ module _ {v f n keep remove count s : ℕ} {cost : Float} {place : Point} {w w�
     (queue : Queue v f w q n) (named : QueueNamed v f w n) (long : placesTo v f ≤ length p) (points : (keep < v) × (remove < v))
     (made : RoomMade v f w q n w₁ count) (is-slot : s ≡ slotAt v f w₁ count) (put : EntryPut v f w₁ p q s keep remove cost place w₂ p' q')
     (sifted : Sifted v f (count + 1) w₂ w₃) where
+  made-fewer : Fewer v f w n w₁ count
+  made-fewer = lost-fewer (made .lost)
+
   inside : s < 3 * f
   inside = slot-inside (made .queue) (made .free) is-slot (points .0) (points .1) put
 
@@ -162,7 +169,7 @@ module _ {v f n keep remove count s : ℕ} {cost : Float} {place : Point} {w w�
   old-named : (t : ℕ) → isQueued v f w₁ count t ≡ true → (pairAt v f w₁ t .keep < v) × (pairAt v f w₁ t .remove < v)
   old-named t among =
       subst (λ (pair : Pair). (pair .keep < v) × (pair .remove < v)) (sym (pair-moved (order-moved v f (made .but)) t (old-inside t among)))
-      (named t (made .fewer t among))
+      (named t (made-fewer t among))
 
   -- ---- the open pairs
 
@@ -179,6 +186,14 @@ module _ {v f n keep remove count s : ℕ} {cost : Float} {place : Point} {w w�
       rw (← is-slot)
       (ap₂ (λ (b : Bool) (pair : Pair). cond b (g pair) 0) (here-current later (points .0) (points .1)) (later .pair))
 
+  made-open : (g : Pair → ℕ) → sum g (openIn v f w₁ count) ≡ sum g (openIn v f w n)
+  made-open g =
+      omega (
+        arith,
+        lost-open (made .lost) queue named (made .but) g,
+        old-weigh v f w (λ t. g (pairAt v f w t)) (made .thrown) (made .old),
+      )
+
   open-more : (g : Pair → ℕ) → sum g (openIn v f w₃ (count + 1)) ≡ sum g (openIn v f w n) + g (pairOf keep remove)
   open-more g =
       open-sum v f w₃ (count + 1) g
@@ -187,8 +202,56 @@ module _ {v f n keep remove count s : ℕ} {cost : Float} {place : Point} {w w�
       ∙ ap₂ _+_
       (sum-members (weighed v f w₃ g) (weighed v f w₁ g) (queued v f w₁ count) (weight-kept g)
       ∙ sym (open-sum v f w₁ count g)
-      ∙ made .same-open .sums g)
+      ∙ made-open g)
       (weight-new g)
+
+  -- ---- the entries
+
+  -- the one that is put in
+  new : StoredEntry
+  new = record { pair = pairOf keep remove; cost = cost; place = place; keep-stamp = stamp v f w keep; remove-stamp = stamp v f w remove }
+
+  entry-new : entryIn v f w₃ p' q' s ≡ new
+  unfolding new
+  entry-new = entry-path (whole .pair) (here-cost inside put (queue .costs-long)) (here-place inside put long) (whole .keeps) (whole .removes)
+
+  entry-old-same : (t : ℕ) → isQueued v f w₁ count t ≡ true → entryIn v f w₃ p' q' t ≡ entryIn v f w p q t
+  entry-old-same t among =
+      let t-inside = old-inside t among in
+      let t-other = old-other t among in
+      entry-path (other-pair whole t t-inside t-other) (other-cost inside put t t-other) (other-place inside put t t-other)
+      (other-keeps whole t t-inside t-other) (other-removes whole t t-inside t-other)
+
+  entries-are : SameBag (entriesIn v f w₃ p' q' (count + 1)) (map (entryIn v f w p q) (queued v f w₁ count) ++ (new ∷ []))
+  unfolding entriesIn sum
+  entries-are = record {
+    sums = λ g.
+        let weight : ℕ → ℕ = λ t. g (entryIn v f w₃ p' q' t) in
+        let weight₀ : ℕ → ℕ = λ t. g (entryIn v f w p q t) in
+        sum-map g (entryIn v f w₃ p' q') (queued v f w₃ (count + 1))
+        ∙ same-slots .sums weight
+        ∙ queued-next v f w₁ weight count
+        ∙ ap₂ _+_
+        (sum-members weight weight₀ (queued v f w₁ count) (λ t among. ap g (entry-old-same t among)) ∙ sym (sum-map g (entryIn v f w p q) (queued v f w₁ count)))
+        (ap weight (sym is-slot) ∙ ap g entry-new ∙ sym (add-zero (g new)))
+        ∙ sym (sum-append g (map (entryIn v f w p q) (queued v f w₁ count)) (new ∷ []));
+  }
+
+  entries-were : SameBag (entriesIn v f w p q n) (map (entryIn v f w p q) (made .thrown) ++ map (entryIn v f w p q) (queued v f w₁ count))
+  unfolding entriesIn
+  entries-were =
+      subst (λ (es : List StoredEntry). SameBag (map (entryIn v f w p q) (queued v f w n)) es)
+      (map-append (entryIn v f w p q) (made .thrown) (queued v f w₁ count))
+      (bag-map (made .lost .slots) (entryIn v f w p q))
+
+  pushed-entries : Requeued (stampsOf v f w) (entriesIn v f w p q n) (new ∷ []) (entriesIn v f w₃ p' q' (count + 1))
+  pushed-entries = record {
+    thrown = map (entryIn v f w p q) (made .thrown);
+    stayed = map (entryIn v f w p q) (queued v f w₁ count);
+    old = queued-old p (made .thrown) queue named (lost-queued (made .lost)) (made .old);
+    were = entries-were;
+    are = entries-are;
+  }
 
   -- ---- the queue
 
@@ -199,8 +262,8 @@ module _ {v f n keep remove count s : ℕ} {cost : Float} {place : Point} {w w�
       ∙ ap (sum g) (put-queued (made .queue) free is-slot (points .0) (points .1) put (3 * f) (le-refl (3 * f)))
       ∙ made .queue .each-once g
 
-  pub entry-pushed : HeapFrom 0 v f w₃ q' (count + 1) → Pushed v f w p q n keep remove w₃ p' q' (count + 1)
-  unfolding sum
+  pub entry-pushed : HeapFrom 0 v f w₃ q' (count + 1) → Pushed v f w p q n keep remove cost place w₃ p' q' (count + 1)
+  unfolding sum new
   entry-pushed heap =
       let costs = costs-but inside put in
       let free = made .free in
@@ -219,6 +282,7 @@ module _ {v f n keep remove count s : ℕ} {cost : Float} {place : Point} {w w�
           };
           sums = λ g. rw (open-more g) (omega arith);
         };
+        requeued = pushed-entries;
         lists-same = λ i low high. whole .under i high (omega arith) (omega arith);
       }
 
@@ -251,7 +315,7 @@ module _ {v f n keep remove count s : ℕ} {cost : Float} {place : Point} {w w�
 
     old-kept : Kept v f w p q n bound → (t : ℕ) → isQueued v f w₁ count t ≡ true → SlotKept v f w₃ p' q' bound t
     old-kept kept t old =
-        let before = kept-slot kept t (made .fewer t old) in
+        let before = kept-slot kept t (made-fewer t old) in
         let t-inside = old-inside t old in
         let t-other = old-other t old in
         let was-current : isCurrent v f w₃ t ≡ isCurrent v f w t = other-current whole t t-inside t-other (before .named) in

@@ -1,71 +1,101 @@
 -- Entries are taken off the top up to the first current one: what holds before each turn, and what a turn does.
 -- Assumes nothing.
-use Prim.Native.Nat.{ℕ, _+_, _-_, _≤_, _<_}
+use Prim.Native.Nat.{ℕ, _+_, _*_, _-_, _≤_, _<_}
 use native.Mathlib.Omega.{arith}
-use mathlib.Core.Path.{_≡_, refl, sym, ap, ap₂, subst, _∙_}
-use mathlib.Core.List.{List, [], _∷_}
-use mathlib.Core.Bool.{Bool, true, false, cond}
+use mathlib.Core.Path.{_≡_, refl, sym, ap, subst, _∙_}
+use mathlib.Core.List.{List, [], _∷_, _++_}
+use mathlib.Core.Bool.{Bool, true, false, not, cond}
 use lib.Dec.{eqb}
 use lib.ListN.{length}
 use lib.Ieee.{Float}
-use borrow.Author.Tests.{eq-eqb, eqb-true}
+use borrow.Author.Tests.{eqb-true}
 use Rattle.walk.specs.declared.Pair.{Pair}
-use Rattle.lists.specs.Lists.{sum, count, below}
+use Rattle.lists.specs.Lists.{sum, count, every, below}
 use Rattle.lists.proofs.TestLaws.{by-test}
 use Rattle.lists.proofs.CondLaws.{cond-same}
-use Rattle.lists.proofs.SumLaws.{sum-same}
+use Rattle.lists.proofs.SumLaws.{sum-same, sum-append}
+use Rattle.lists.proofs.BagLaws.{bag-refl, bag-every}
+use Rattle.lists.proofs.EveryLaws.{every-head, every-cons, every-both}
 use Rattle.lists.specs.Frames.{But}
 use Rattle.lists.proofs.FrameLaws.{but-refl, but-then}
 use Rattle.memory.specs.Entries.{pairAt, slotAt, queued}
 use Rattle.queue.specs.Contracts.Ranks.{rankIn}
 use Rattle.queue.specs.State.{isCurrent, isQueued, openIn}
 use Rattle.queue.specs.Contracts.Queued.{Queue, QueueNamed, EntryNamed}
-use Rattle.queue.specs.Contracts.Changes.{Fewer, Popped, TakenOff, NoneLeft}
+use Rattle.queue.specs.Contracts.Changes.{Fewer, Lost, Popped, TakenOff, NoneLeft}
 use Rattle.queue.proofs.SwapLaws.{rank-kept}
-use Rattle.queue.proofs.OrderLaws.{member-of, counted-some, place-queued, queued-place}
-use Rattle.queue.proofs.EntryLaws.{weighed, ifCurrent, open-sum, open-length, open-sum-kept, order-moved, queue-entered}
+use Rattle.queue.proofs.OrderLaws.{member-of, place-queued, queued-place}
+use Rattle.queue.proofs.EntryLaws.{weighed, ifCurrent, open-length, order-moved, queue-entered}
+use Rattle.queue.proofs.LostLaws.{lost-fewer, lost-queued, lost-open, old-weigh}
 use Rattle.queue.proofs.MovedLaws.{current-same, entered-moved}
 use Rattle.memory.specs.Layout.{keepStampsFrom, orderFrom}
 
--- Of the n entries that stood in w₀ left are queued, and those that were current are among them.
+-- Of the n entries that stood in w₀ left are queued, and the others were passed over: they were old.
 pub record Taking (v f : ℕ) (w₀ : List ℕ) (q : List Float) (n : ℕ) (w : List ℕ) (left : ℕ) : Type 0 where
   pub but : But (orderFrom v f) (keepStampsFrom v f) w₀ w
   pub queue : Queue v f w q left
-  pub fewer : Fewer v f w₀ n w left
-  pub currents : (g : ℕ → ℕ) → sum (ifCurrent v f w₀ g) (queued v f w left) ≡ sum (ifCurrent v f w₀ g) (queued v f w₀ n)
+  pub passed : List ℕ
+  pub lost : Lost v f w₀ n passed w left
+  pub old : every (λ t. not (isCurrent v f w₀ t)) passed ≡ true
 
 pub taking-start : {v f : ℕ} {w : List ℕ} {q : List Float} {n : ℕ} → Queue v f w q n → Taking v f w q n w n
-taking-start queue = record { but = but-refl _ _ _; queue = queue; fewer = λ s there. there; currents = λ g. refl }
+unfolding every
+taking-start queue = record { but = but-refl _ _ _; queue = queue; passed = []; lost = record { slots = bag-refl }; old = refl }
 
 -- none is left
 pub taking-none : {v f : ℕ} {w₀ : List ℕ} {q : List Float} {n : ℕ} {w : List ℕ} {left : ℕ} → left ≡ 0 → Taking v f w₀ q n w left → NoneLeft v f w₀ q n w
-unfolding sum below
+unfolding every below
 taking-none {v} {f} {w₀} {q} {n} {w} {left} none end =
     let last : Taking v f w₀ q n w 0 = subst (λ (k : ℕ). Taking v f w₀ q n w k) none end in
-    record {
-      but = last .but;
-      queue = last .queue;
-      none = no-more (openIn v f w₀ n) (open-length v f w₀ n ∙ sym (last .currents (λ s. 1)));
-    }
-  where
-    no-more : (ps : List Pair) → length ps ≡ 0 → ps ≡ []
-    no-more [] e = refl
-    no-more (p ∷ ps) e = absurd (omega arith)
+    let test : ℕ → Bool = λ t. not (isCurrent v f w₀ t) in
+    record { but = last .but; queue = last .queue; old = bag-every (last .lost .slots) test ∙ every-both test (last .passed) [] (last .old) refl }
+
+-- what was current is queued still
+module _ {v f : ℕ} {w₀ : List ℕ} {q : List Float} {n : ℕ} {w : List ℕ} {left : ℕ} (before : Taking v f w₀ q n w left) where
+  currents : (g : ℕ → ℕ) → sum (ifCurrent v f w₀ g) (queued v f w left) ≡ sum (ifCurrent v f w₀ g) (queued v f w₀ n)
+  currents g =
+      let weight = ifCurrent v f w₀ g in
+      omega (
+        arith,
+        before .lost .slots .sums weight,
+        sum-append weight (before .passed) (queued v f w left),
+        old-weigh v f w₀ g (before .passed) (before .old),
+      )
+
+  current-queued : (x : ℕ) → isCurrent v f w₀ x ≡ true → isQueued v f w₀ n x ≡ true → isQueued v f w left x ≡ true
+  current-queued x current there =
+      let one : ℕ → ℕ = λ y. cond (eqb x y) 1 0 in
+      let same : (y : ℕ) → ifCurrent v f w₀ one y ≡ one y =
+      λ y. by-test (eqb x y) (λ e. rw (e, ← eqb-true x y e, current)) (λ e. rw e (cond-same (isCurrent v f w₀ y) 0)) in
+      let counts : count (eqb x) (queued v f w left) ≡ count (eqb x) (queued v f w₀ n) =
+      sym (sum-same (ifCurrent v f w₀ one) one same (queued v f w left))
+      ∙ currents one
+      ∙ sum-same (ifCurrent v f w₀ one) one same (queued v f w₀ n) in
+      member-of x (queued v f w₀ n) (queued v f w left) (omega arith) there
 
 module _ {v f : ℕ} {w₀ : List ℕ} {q : List Float} {n : ℕ} {w : List ℕ} {left : ℕ} {w' : List ℕ} {s : ℕ}
     (start : Queue v f w₀ q n) (named : QueueNamed v f w₀ n) (before : Taking v f w₀ q n w left) (popped : Popped v f w q left w' s) where
   but-popped : But (orderFrom v f) (keepStampsFrom v f) w₀ w'
   but-popped = but-then (before .but) (popped .but)
 
-  fewer-popped : Fewer v f w₀ n w' (left - 1)
-  fewer-popped x there =
-      before .fewer x (member-of x (queued v f w' (left - 1)) (queued v f w left) (omega (arith, popped .sums (λ y. cond (eqb x y) 1 0))) there)
+  -- what is taken off, what was passed over and what is left are what stood there
+  lost-popped : Lost v f w₀ n (s ∷ before .passed) w' (left - 1)
+  unfolding sum
+  lost-popped = record {
+    slots = record {
+      sums = λ g.
+          omega (
+            arith,
+            before .lost .slots .sums g,
+            sum-append g (before .passed) (queued v f w left),
+            popped .sums g,
+            sum-append g (before .passed) (queued v f w' (left - 1)),
+          );
+    };
+  }
 
-  -- what is taken off was queued, with a pair
   was-queued : isQueued v f w₀ n s ≡ true
-  was-queued =
-      let itself : _≡_ {A = ℕ} (cond (eqb s s) 1 0) 1 = rw (eq-eqb s s refl) in
-      before .fewer s (counted-some s (queued v f w left) (omega (arith, popped .sums (λ y. cond (eqb s y) 1 0))))
+  was-queued = every-head (isQueued v f w₀ n) s (before .passed) (lost-queued lost-popped)
 
   pub popped-entered : EntryNamed v f w₀ s
   popped-entered = queue-entered start named s was-queued
@@ -83,29 +113,16 @@ module _ {v f : ℕ} {w₀ : List ℕ} {q : List Float} {n : ℕ} {w : List ℕ}
       record {
         but = but-popped;
         queue = popped .queue;
-        fewer = fewer-popped;
-        currents = λ g.
-            let nothing : ifCurrent v f w₀ g s ≡ 0 = rw old in
-            omega (arith, popped .sums (ifCurrent v f w₀ g), before .currents g);
+        passed = s ∷ before .passed;
+        lost = lost-popped;
+        old = every-cons (λ t. not (isCurrent v f w₀ t)) s (before .passed) (rw old) (before .old);
       }
-
-  -- what was current is queued still
-  current-queued : (x : ℕ) → isCurrent v f w₀ x ≡ true → isQueued v f w₀ n x ≡ true → isQueued v f w left x ≡ true
-  current-queued x current there =
-      let one : ℕ → ℕ = λ y. cond (eqb x y) 1 0 in
-      let same : (y : ℕ) → ifCurrent v f w₀ one y ≡ one y =
-      λ y. by-test (eqb x y) (λ e. rw (e, ← eqb-true x y e, current)) (λ e. rw e (cond-same (isCurrent v f w₀ y) 0)) in
-      let counts : count (eqb x) (queued v f w left) ≡ count (eqb x) (queued v f w₀ n) =
-      sym (sum-same (ifCurrent v f w₀ one) one same (queued v f w left))
-      ∙ before .currents one
-      ∙ sum-same (ifCurrent v f w₀ one) one same (queued v f w₀ n) in
-      member-of x (queued v f w₀ n) (queued v f w left) (omega arith) there
 
   popped-least : (i : ℕ) → i < n → isCurrent v f w₀ (slotAt v f w₀ i) ≡ true → rankIn v f w₀ q s ≤ rankIn v f w₀ q (slotAt v f w₀ i)
   popped-least i inside current =
       let x : ℕ = slotAt v f w₀ i in
       let there = place-queued v f w₀ inside in
-      let (j, within, same) = queued-place v f w left x (current-queued x current there) in
+      let (j, within, same) = queued-place v f w left x (current-queued before x current there) in
       omega (
         arith,
         popped .least j within,
@@ -120,15 +137,43 @@ module _ {v f : ℕ} {w₀ : List ℕ} {q : List Float} {n : ℕ} {w : List ℕ}
       record {
         but = but-popped;
         queue = popped .queue;
-        slot = popped .slot;
-        was-queued = was-queued;
+        passed = before .passed;
+        lost = lost-popped;
+        old = before .old;
         current = current;
-        fewer = fewer-popped;
-        sums = λ g.
-            let itself : weighed v f w₀ g s ≡ g (pairAt v f w₀ s) = rw current in
-            ap₂ _+_ (open-sum-kept v f but-popped (left - 1) (λ x there. queue-entered start named x (fewer-popped x there)) g) (sym itself)
-            ∙ popped .sums (weighed v f w₀ g)
-            ∙ before .currents (λ x. g (pairAt v f w₀ x))
-            ∙ sym (open-sum v f w₀ n g);
         least = popped-least;
       }
+
+-- ---- what that says of the pairs
+
+module _ {v f : ℕ} {w : List ℕ} {q : List Float} {n : ℕ} {w' : List ℕ} {s left : ℕ} (queue : Queue v f w q n) (named : QueueNamed v f w n)
+    (taken : TakenOff v f w q n w' s left) where
+  -- what was taken off was queued, with a pair
+  pub taken-queued : isQueued v f w n s ≡ true
+  taken-queued = every-head (isQueued v f w n) s (taken .passed) (lost-queued (taken .lost))
+
+  pub taken-slot : s < 3 * f
+  taken-slot = queue-entered queue named s taken-queued .slot
+
+  pub taken-fewer : Fewer v f w n w' left
+  taken-fewer = lost-fewer (taken .lost)
+
+  -- the open pairs are fewer by its pair
+  pub taken-sums : (g : Pair → ℕ) → sum g (openIn v f w' left) + g (pairAt v f w s) ≡ sum g (openIn v f w n)
+  unfolding sum
+  taken-sums g =
+      let itself : weighed v f w g s ≡ g (pairAt v f w s) = rw (taken .current) in
+      omega (
+        arith,
+        itself,
+        old-weigh v f w (λ t. g (pairAt v f w t)) (taken .passed) (taken .old),
+        lost-open (taken .lost) queue named (taken .but) g,
+      )
+
+-- where no entry was current, no pair was open
+pub none-open : {v f : ℕ} {w : List ℕ} {q : List Float} {n : ℕ} {w' : List ℕ} → NoneLeft v f w q n w' → openIn v f w n ≡ []
+none-open {v} {f} {w} {q} {n} none = no-more (openIn v f w n) (open-length v f w n ∙ old-weigh v f w (λ t. 1) (queued v f w n) (none .old))
+  where
+    no-more : (ps : List Pair) → length ps ≡ 0 → ps ≡ []
+    no-more [] e = refl
+    no-more (p ∷ ps) e = absurd (omega arith)

@@ -3,25 +3,29 @@
 use Prim.Native.Nat.{ℕ, _+_, _*_, _≤_, _<_}
 use native.Mathlib.Omega.{arith}
 use mathlib.Core.Path.{_≡_, refl, sym, ap, ap₂, subst, _∙_}
-use mathlib.Core.List.{List}
-use mathlib.Core.Bool.{Bool, true, false, cond}
-use lib.Dec.{eqb}
+use mathlib.Core.List.{List, []}
+use mathlib.Core.Bool.{Bool, true, false, not, cond}
 use lib.Ieee.{Float}
-use Rattle.lists.specs.Lists.{sum, below}
-use Rattle.lists.proofs.SumLaws.{sum-same, sum-mono, sum-those, sum-length}
+use lib.ListN.{length, length-map}
+use Rattle.lists.specs.Lists.{sum, those, every, below}
+use Rattle.lists.proofs.SumLaws.{sum-those}
+use Rattle.lists.proofs.BagLaws.{bag-refl, bag-sym, bag-trans, bag-append, bag-length}
+use Rattle.lists.proofs.EveryLaws.{every-passed}
 use Rattle.memory.specs.Memory.{Room}
 use Rattle.lists.specs.Frames.{But}
-use Rattle.lists.proofs.FrameLaws.{but-then}
+use Rattle.lists.proofs.FrameLaws.{but-refl, but-then}
 use Rattle.memory.specs.Entries.{pairAt, slotAt, queued}
 use Rattle.queue.specs.Contracts.Ranks.{HeapFrom}
 use Rattle.queue.specs.Contracts.Order.{Slotted, Sifted}
-use Rattle.queue.specs.State.{isCurrent}
-use Rattle.queue.specs.Contracts.Queued.{Queue, QueueNamed, EntryNamed}
-use Rattle.queue.specs.Contracts.Changes.{Fewer, CurrentFirst, ThrownOut}
+use Rattle.queue.specs.State.{isCurrent, openIn}
+use Rattle.queue.specs.Contracts.Queued.{Queue, EntryNamed}
+use Rattle.queue.specs.Contracts.Changes.{CurrentFirst, ThrownOut}
+use Rattle.queue.specs.Contracts.Pushing.{RoomMade}
+use Rattle.queue.proofs.PartLaws.{bag-parts}
 use Rattle.queue.proofs.SwapLaws.{swapped, swapped-slots, swapped-sifted, sifted-none, sifted-then}
-use Rattle.queue.proofs.OrderLaws.{member-of, queued-length, queued-agree}
+use Rattle.queue.proofs.OrderLaws.{queued-length, queued-agree}
 use Rattle.queue.proofs.RootLaws.{queued-next}
-use Rattle.queue.proofs.EntryLaws.{weighed, ifCurrent, open-sum, open-length, open-sum-kept, order-moved, queue-entered, room-but}
+use Rattle.queue.proofs.EntryLaws.{ifCurrent, order-moved, room-but}
 use Rattle.queue.proofs.MovedLaws.{current-same, entered-moved}
 use Rattle.queue.proofs.PopLaws.{sifted-order, sifted-once, first-slotted}
 use Rattle.memory.specs.Layout.{keepStampsFrom, orderFrom}
@@ -101,28 +105,9 @@ module _ {v f : ℕ} {w₀ : List ℕ} {n : ℕ} {w : List ℕ} {kept i : ℕ} (
 
 -- ---- what is left
 
--- nothing is weighed twice
-twice : (b : Bool) (k : ℕ) → cond b (cond b k 0) 0 ≡ cond b k 0
-twice true k = refl
-twice false k = refl
-
-less : (b : Bool) (k : ℕ) → cond b k 0 ≤ k
-less true k = omega arith
-less false k = omega arith
-
-module _ {v f : ℕ} {w : List ℕ} {q : List Float} {n : ℕ} {w' : List ℕ} {r : ℕ} (queue : Queue v f w q n) (named : QueueNamed v f w n)
-    (first : CurrentFirst v f w n w' r) where
+module _ {v f : ℕ} {w : List ℕ} {q : List Float} {n : ℕ} {w' : List ℕ} {r : ℕ} (queue : Queue v f w q n) (first : CurrentFirst v f w n w' r) where
   pub kept-slotted : Slotted v f w' q r
   kept-slotted = first-slotted queue (first .sifted) (first .few)
-
-  kept-sums : {w'' : List ℕ} → Sifted v f r w' w'' → (g : ℕ → ℕ) → sum g (queued v f w'' r) ≡ sum (ifCurrent v f w g) (queued v f w n)
-  kept-sums settled g = settled .sums g ∙ first .current .sums g ∙ sum-those g (isCurrent v f w) (queued v f w n)
-
-  kept-fewer : {w'' : List ℕ} → Sifted v f r w' w'' → Fewer v f w n w'' r
-  kept-fewer {w''} settled x there =
-      let one : ℕ → ℕ = λ y. cond (eqb x y) 1 0 in
-      let most = sum-mono (ifCurrent v f w one) one (λ y. less (isCurrent v f w y) (one y)) (queued v f w n) in
-      member-of x (queued v f w'' r) (queued v f w n) (omega (arith, kept-sums settled one)) there
 
   pub throwing : {w'' : List ℕ} → Sifted v f r w' w'' → HeapFrom 0 v f w'' q r → ThrownOut v f w q n w'' r
   throwing {w''} settled heap =
@@ -137,16 +122,34 @@ module _ {v f : ℕ} {w : List ℕ} {q : List Float} {n : ℕ} {w' : List ℕ} {
           each-once = sifted-once few settled (sifted-once (queue .few) (first .sifted) (queue .each-once));
           ordered = heap;
         };
-        fewer = kept-fewer settled;
-        same-open = record {
-          sums = λ g.
-              open-sum-kept v f but r (λ x there. queue-entered queue named x (kept-fewer settled x there)) g
-              ∙ kept-sums settled (weighed v f w g)
-              ∙ sum-same (ifCurrent v f w (weighed v f w g)) (weighed v f w g) (λ x. twice (isCurrent v f w x) (g (pairAt v f w x))) (queued v f w n)
-              ∙ sym (open-sum v f w n g);
-        };
-        counted =
-            sym (sum-length (queued v f w'' r) ∙ queued-length v f w'' r)
-            ∙ kept-sums settled (λ x. 1)
-            ∙ sym (open-length v f w n);
+        current = bag-trans (record { sums = settled .sums }) (first .current);
       }
+
+-- ---- what that says of the others
+
+module _ {v f : ℕ} {w : List ℕ} {q : List Float} {n : ℕ} {w' : List ℕ} {n' : ℕ} (out : ThrownOut v f w q n w' n') where
+  -- as many stay as pairs are open
+  pub thrown-counted : n' ≡ length (openIn v f w n)
+  unfolding openIn
+  thrown-counted =
+      sym (queued-length v f w' n') ∙ bag-length (out .current) ∙ sym (length-map (those (isCurrent v f w) (queued v f w n)) (pairAt v f w))
+
+  -- so where fewer are open than there are places, there is room
+  pub thrown-room : length (openIn v f w n) < 3 * f → RoomMade v f w q n w' n'
+  thrown-room few = record {
+    but = out .but;
+    queue = out .queue;
+    thrown = those (λ t. not (isCurrent v f w t)) (queued v f w n);
+    lost = record {
+      slots =
+          bag-trans (bag-parts (isCurrent v f w) (queued v f w n))
+          (bag-append {xs = those (λ t. not (isCurrent v f w t)) (queued v f w n)} bag-refl (bag-sym (out .current)));
+    };
+    old = every-passed (λ t. not (isCurrent v f w t)) (λ t e. e) (queued v f w n);
+    free = omega (arith, thrown-counted);
+  }
+
+-- where a place is free nothing is thrown out
+pub room-already : {v f : ℕ} {w : List ℕ} {q : List Float} {n : ℕ} → Queue v f w q n → n < 3 * f → RoomMade v f w q n w n
+unfolding every
+room-already queue few = record { but = but-refl _ _ _; queue = queue; thrown = []; lost = record { slots = bag-refl }; old = refl; free = few }

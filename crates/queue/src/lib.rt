@@ -161,7 +161,7 @@ pub fn push(
     cost: f64,
 ) -> usize
     requires { ⌜ Queue v f (now w) (now q) n ⌝ ∗ ⌜ QueueNamed v f (now w) n ⌝ ∗ ⌜ placesTo v f ≤ length (now p) ⌝ ∗ ⌜ (fold .keep < v) × (fold .remove < v) ⌝ ∗ ⌜ length (openIn v f (now w) n) < 3 * f ⌝ }
-    ensures { λ r. ⌜ Pushed v f (now (w .entry)) (now (p .entry)) (now (q .entry)) n (fold .keep) (fold .remove) (now (w .exit)) (now (p .exit)) (now (q .exit)) r ⌝ ∗ ⌜ ((bound : Float) → Kept v f (now (w .entry)) (now (p .entry)) (now (q .entry)) n bound → cost ≡ pairCost bound (vertexAt v f (now (w .entry)) (now (p .entry)) (now (q .entry)) (fold .keep)) (vertexAt v f (now (w .entry)) (now (p .entry)) (now (q .entry)) (fold .remove)) → fold .place ≡ pairPlace bound (vertexAt v f (now (w .entry)) (now (p .entry)) (now (q .entry)) (fold .keep)) (vertexAt v f (now (w .entry)) (now (p .entry)) (now (q .entry)) (fold .remove)) → Kept v f (now (w .exit)) (now (p .exit)) (now (q .exit)) r bound) ⌝ }
+    ensures { λ r. ⌜ Pushed v f (now (w .entry)) (now (p .entry)) (now (q .entry)) n (fold .keep) (fold .remove) cost (fold .place) (now (w .exit)) (now (p .exit)) (now (q .exit)) r ⌝ ∗ ⌜ ((bound : Float) → Kept v f (now (w .entry)) (now (p .entry)) (now (q .entry)) n bound → cost ≡ pairCost bound (vertexAt v f (now (w .entry)) (now (p .entry)) (now (q .entry)) (fold .keep)) (vertexAt v f (now (w .entry)) (now (p .entry)) (now (q .entry)) (fold .remove)) → fold .place ≡ pairPlace bound (vertexAt v f (now (w .entry)) (now (p .entry)) (now (q .entry)) (fold .keep)) (vertexAt v f (now (w .entry)) (now (p .entry)) (now (q .entry)) (fold .remove)) → Kept v f (now (w .exit)) (now (p .exit)) (now (q .exit)) r bound) ⌝ }
 {
     let count = make_room(w, q, v, f, n);
     let slot = slot_at(w, v, f, count);

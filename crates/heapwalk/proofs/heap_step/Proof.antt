@@ -43,6 +43,7 @@ returns-3 c =
     let at = c .before .before .before .before in
     let s = entry at in
     none-left (s .pre) (s .args .target) (s .args .bounds .limit) (took-none (c .enum-told .given .1) (at .take-current .ensures))
+    (omega (arith, at .before .before .before .if1 .left))
 
 pub heap-step-spec : {M : Type 1} → statement M
 heap-step-spec =

@@ -27,7 +27,7 @@ pub record Enterable (v f : ℕ) (w : List ℕ) (p q : List Float) (n : ℕ) (li
   pub enough : length (openIn v f w n) + length (pairsWith v f w p q limit bound x ys) ≤ 3 * f
 
 -- entries for a list of pairs are put in, and the lists around a point stay
-pub record EnteredBeside (v f : ℕ) (w : List ℕ) (p q : List Float) (n : ℕ) (bound : Float) (more : List Pair)
+pub record EnteredBeside (v f : ℕ) (w : List ℕ) (p q : List Float) (n : ℕ) (limit : Limit) (bound : Float) (more : List Pair)
     (w' : List ℕ) (p' q' : List Float) (n' : ℕ) : Type 0 where
-  pub entered : Entered v f w p q n bound more w' p' q' n'
+  pub entered : Entered v f w p q n limit bound more w' p' q' n'
   pub lists-same : (i : ℕ) → nearFrom v f ≤ i → i < orderFrom v f → getD w' i 0 ≡ getD w i 0

@@ -15,14 +15,14 @@ settle-requires : tie.Need-settle-requires
 settle-requires c κs =
     let gathered = c .before .before .before in
     let pre = gathered .before .before .before .before .pre in
-    kept-slotted (pre .0) (pre .1) (gathered .gather-current .ensures)
+    kept-slotted (pre .0) (gathered .gather-current .ensures)
 
 returns : tie.Need-returns
 returns c =
     let settled = c .before .before in
     let gathered = settled .before .before .before .before in
     let pre = gathered .before .before .before .before .pre in
-    throwing (pre .0) (pre .1) (gathered .gather-current .ensures) (settled .settle .ensures .0) (settled .settle .ensures .1)
+    throwing (pre .0) (gathered .gather-current .ensures) (settled .settle .ensures .0) (settled .settle .ensures .1)
 
 pub throw-out-spec : {M : Type 1} → statement M
 throw-out-spec = tie.close (tie.spec gather-current-requires settle-requires (λ c. search needs) returns)

@@ -2,24 +2,26 @@
 use Prim.Native.Nat.{ℕ, _+_, _*_, _<_}
 use mathlib.Core.Path.{_≡_}
 use mathlib.Core.List.{List}
+use mathlib.Core.Bool.{true, not}
 use lib.ListN.{set}
 use lib.Ieee.{Float}
 use Rattle.geometry.specs.declared.Point.{Point}
-use Rattle.lists.specs.Lists.{SameBag}
+use Rattle.lists.specs.Lists.{every}
 use Rattle.lists.specs.Frames.{But}
 use Rattle.memory.specs.Points.{withPoint}
 use Rattle.memory.specs.Entries.{stamp}
-use Rattle.queue.specs.State.{openIn}
+use Rattle.queue.specs.State.{isCurrent}
 use Rattle.queue.specs.Contracts.Queued.{Queue}
-use Rattle.queue.specs.Contracts.Changes.{Fewer}
+use Rattle.queue.specs.Contracts.Changes.{Lost}
 use Rattle.memory.specs.Layout.{keepStampsFrom, keepsFrom, orderFrom, removeStampsFrom, removesFrom}
 
--- there is room for an entry: old ones may be gone, and the current ones stay
+-- there is room for an entry: old ones may be thrown out, and the others stay
 pub record RoomMade (v f : ℕ) (w : List ℕ) (q : List Float) (n : ℕ) (w' : List ℕ) (n' : ℕ) : Type 0 where
   pub but : But (orderFrom v f) (keepStampsFrom v f) w w'
   pub queue : Queue v f w' q n'
-  pub fewer : Fewer v f w n w' n'
-  pub same-open : SameBag (openIn v f w' n') (openIn v f w n)
+  pub thrown : List ℕ
+  pub lost : Lost v f w n thrown w' n'
+  pub old : every (λ t. not (isCurrent v f w t)) thrown ≡ true
   pub free : n' < 3 * f
 
 -- the memory with a pair in slot s, and with two stamps

@@ -12,7 +12,7 @@ use Rattle.heapwalk.proofs.entering.enter_listed.Tie as tie
 
 abbrev Inv-loop : tie.InvT-loop
 Inv-loop w₀ p₀ q₀ v f n x count bounds entries₀ i₀ w p q entries i =
-    (i ≤ count) × EnteredBeside v f w₀ p₀ q₀ n (bounds .size) (pairsWith v f w₀ p₀ q₀ (bounds .limit) (bounds .size) x (aroundIn v f w₀ i)) w p q entries
+    (i ≤ count) × EnteredBeside v f w₀ p₀ q₀ n (bounds .limit) (bounds .size) (pairsWith v f w₀ p₀ q₀ (bounds .limit) (bounds .size) x (aroundIn v f w₀ i)) w p q entries
 
 abbrev μ-loop : tie.MeasureT-loop
 μ-loop w₀ p₀ q₀ v f n x count bounds entries₀ i₀ w p q entries i = count - i

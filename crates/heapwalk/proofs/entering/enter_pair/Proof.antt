@@ -59,7 +59,7 @@ returns c =
     let start = entry (found .before .before) in
     let ready = start .pre in
     let same = candidate-eligible _ _ _ _ _ _ (sym (found .cost .given .1) ∙ candidate (found .before .before)) in
-    entered-one ready (same .0) (pushed .push .ensures .0) (pushed .push .ensures .1 (start .args .bounds .size) (ready .«open» .kept) (same .1) (same .2))
+    entered-one ready (same .0) (same .1) (same .2) (pushed .push .ensures .0) (pushed .push .ensures .1 (start .args .bounds .size) (ready .«open» .kept) (same .1) (same .2))
 
 returns-2 : tie.Need-returns-2
 unfolding fits

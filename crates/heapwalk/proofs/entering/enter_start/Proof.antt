@@ -9,7 +9,7 @@ use Rattle.heapwalk.proofs.entering.enter_start.Statement.{statement}
 use Rattle.heapwalk.proofs.entering.enter_start.Tie as tie
 
 abbrev Inv-loop : tie.InvT-loop
-Inv-loop w₀ p₀ q₀ v f bounds n₀ x₀ w p q n x = (x ≤ v) × Entered v f w₀ p₀ q₀ 0 (bounds .size) (risingBelow v f w₀ p₀ q₀ (bounds .limit) (bounds .size) x) w p q n
+Inv-loop w₀ p₀ q₀ v f bounds n₀ x₀ w p q n x = (x ≤ v) × Entered v f w₀ p₀ q₀ 0 (bounds .limit) (bounds .size) (risingBelow v f w₀ p₀ q₀ (bounds .limit) (bounds .size) x) w p q n
 
 abbrev μ-loop : tie.MeasureT-loop
 μ-loop w₀ p₀ q₀ v f bounds n₀ x₀ w p q n x = v - x
