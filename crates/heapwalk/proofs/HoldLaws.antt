@@ -24,7 +24,8 @@ use Rattle.plainwalk.specs.declared.Walked.{Walked}
 use Rattle.plainwalk.specs.Steps.{Within}
 use Rattle.plainwalk.specs.Whole.{startIn, WalkedFrom, WalkDone}
 use Rattle.walk.proofs.StateLaws.{sound-bag}
-use Rattle.plainwalk.proofs.LentLaws.{lent, Holding, Taken, walked-whole}
+use Rattle.plainwalk.specs.Moments.{moment}
+use Rattle.plainwalk.proofs.LentLaws.{Holding, Taken, walked-whole}
 use Rattle.plainwalk.proofs.WalkLaws.{start-sound}
 use Rattle.heapwalk.specs.Steps.{HeapHolds, HeapStepDone}
 use Rattle.memory.specs.Layout.{foldsFrom, stampsFrom}
@@ -67,7 +68,7 @@ byHeap v f bound = record {
 -- its step is taken as the plain walk's
 pub heap-step : {v f : ℕ} {w : List ℕ} {p q : List Float} {n live target : ℕ} {limit : Limit} {bound : Float} {w' : List ℕ} {p' q' : List Float} {r : Stepped} →
     HeapStepDone v f w p q n target limit bound w' p' q' r →
-    Taken (byHeap v f bound) target limit bound (lent w p q n live) (lent w' p' q' (r .«open») (r .live)) (r .step)
+    Taken (byHeap v f bound) target limit bound (moment w p q n live) (moment w' p' q' (r .«open») (r .live)) (r .step)
 heap-step done =
     let tied = done .tied in
     record { holds = tied .holds; within = tied .within; same-answer = tied .same-answer; same-state = tied .same-state }
@@ -75,7 +76,7 @@ heap-step done =
 -- ---- from the start
 
 module _ {v f : ℕ} {w w₁ : List ℕ} {p q p₁ q₁ : List Float} {n : ℕ} (limit : Limit) (bound : Float) (tidy : Tidy v f w)
-    (whole : length (liveFaces f w) ≡ f) (start : Started v f w p q bound (started (rulesOf limit bound) (meshOf v f w p q) .«open») w₁ p₁ q₁ n) where
+    (whole : length (liveFaces f w) ≡ f) (start : Started v f w p q limit bound (started (rulesOf limit bound) (meshOf v f w p q) .«open») w₁ p₁ q₁ n) where
   start-state : SameState (heapState v f w₁ p₁ q₁ n) (startIn v f w p q limit bound)
   unfolding heapState started
   start-state = record {
@@ -104,4 +105,4 @@ module _ {v f : ℕ} {w w₁ : List ℕ} {p q p₁ q₁ : List Float} {n : ℕ} 
   -- and so the walk from there is the whole walk
   pub walk-done : {target : ℕ} {w' : List ℕ} {p' q' : List Float} {r : Walked} →
       WalkedFrom v f (heapState v f w₁ p₁ q₁ n) w₁ p₁ q₁ target limit bound w' p' q' r → WalkDone v f w p q target limit bound w' p' q' r
-  walk-done = walked-whole (byHeap v f bound) (lent w₁ p₁ q₁ n f) start-holds start-state start-within
+  walk-done = walked-whole (byHeap v f bound) (moment w₁ p₁ q₁ n f) start-holds start-state start-within

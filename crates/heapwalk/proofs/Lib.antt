@@ -11,4 +11,5 @@ pub mod AnswerLaws
 mod TriedLaws
 pub mod TakenLaws
 pub mod HoldLaws
+pub mod ChainLaws
 pub mod Theorems

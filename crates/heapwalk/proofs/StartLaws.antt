@@ -25,9 +25,15 @@ use Rattle.meaning.specs.Arithmetic.{rulesOf}
 use Rattle.openpairs.specs.Contracts.Edges.{risingFrom}
 use Rattle.memory.proofs.MeshLaws.{mesh-but, mesh-length}
 use Rattle.openpairs.proofs.StartLaws.{started-few, rising-sum}
+use Rattle.lists.specs.Lists.{SameBag}
+use Rattle.lists.proofs.BagLaws.{bag-trans, bag-map}
 use Rattle.queue.specs.State.{openIn}
+use Rattle.queue.specs.Stored.{stampsOf, entriesIn}
+use Rattle.queue.proofs.StoredLaws.{stamps-over}
+use Rattle.queue.proofs.RequeuedLaws.{requeued-all}
+use Rattle.heapwalk.specs.Entries.{entryFor}
 use Rattle.queue.specs.Contracts.Changes.{Emptied}
-use Rattle.heapwalk.specs.Contracts.Entering.{Open, Entered, Started}
+use Rattle.heapwalk.specs.Contracts.Entering.{Open, entriesFor, Entered, Started}
 use Rattle.heapwalk.proofs.QueueFrames.{mesh-stays}
 use Rattle.heapwalk.proofs.EnterLaws.{entered-none, entered-then, entered-as, entered-length}
 use Rattle.memory.specs.Layout.{placesTo, stampsFrom}
@@ -36,6 +42,11 @@ use Rattle.memory.specs.Layout.{placesTo, stampsFrom}
 open-none : (v f : ℕ) (w : List ℕ) → openIn v f w 0 ≡ []
 unfolding openIn below those
 open-none v f w = refl
+
+-- nor an entry
+entries-none : (v f : ℕ) (w : List ℕ) (p q : List Float) → entriesIn v f w p q 0 ≡ []
+unfolding entriesIn below
+entries-none v f w p q = refl
 
 -- the pairs that the start opens from the points below x on
 abbrev pub risingBelow : (v f : ℕ) (w : List ℕ) (p q : List Float) (limit : Limit) (bound : Float) → ℕ → List Pair
@@ -104,25 +115,36 @@ module _ {v f : ℕ} {w w₀ : List ℕ} {p q : List Float} (tidy : Tidy v f w) 
         ∙ sym (rw add-one (sum-flatMap g from (below (suc x)))))
         (entered-then done (rw same-mesh at turn))
 
-    -- all of them
-    pub starting-all : x ≡ v → Started v f w p q bound (started (rulesOf limit bound) (meshOf v f w p q) .«open») w' p' q' n
-    unfolding sum
-    starting-all e =
-        let put = done .enqueued in
+    -- the pairs that were opened are those of the start
+    start-pairs : x ≡ v → (g : Pair → ℕ) → sum g (risingBelow v f w₀ p q limit bound x) ≡ sum g (started (rulesOf limit bound) (meshOf v f w p q) .«open»)
+    start-pairs e g =
         let rules = rulesOf limit bound in
         let m = meshOf v f w₀ p q in
         let from = risingFrom rules m in
+        sum-flatMap g from (below x)
+        ∙ ap (λ (k : ℕ). sum (λ y. sum g (from y)) (below k)) (e ∙ sym (mesh-length v f w₀ p q))
+        ∙ rising-sum rules m g
+        ∙ ap (λ (m : Mesh Vertex). sum g (started rules m .«open»)) (mesh-but v f p q (emptied .but) (omega arith))
+
+    -- and so are the entries
+    start-entries : x ≡ v → SameBag (entriesIn v f w' p' q' n) (entriesFor v f w' p' q' limit bound (started (rulesOf limit bound) (meshOf v f w p q) .«open»))
+    start-entries e =
+        let put = done .enqueued in
+        let entry = entryFor limit bound (meshOf v f w₀ p q) (stampsOf v f w₀) in
+        rw (same-mesh, stamps-over v f (put .but) (omega arith))
+        (bag-trans (requeued-all (entries-none v f w₀ p q) (done .requeued)) (bag-map (record { sums = start-pairs e }) entry))
+
+    -- all of them
+    pub starting-all : x ≡ v → Started v f w p q limit bound (started (rulesOf limit bound) (meshOf v f w p q) .«open») w' p' q' n
+    unfolding sum
+    starting-all e =
+        let put = done .enqueued in
         record {
           but = but-then (but-widen (omega arith) (omega arith) (emptied .but)) (but-widen (omega arith) (omega arith) (put .but));
           points-but = put .points-but;
           quadrics-but = put .quadrics-but;
           «open» = done .«open»;
           stamps = λ y l. put .but .under (stampsFrom v f + y) (omega arith) ∙ emptied .stamps y l;
-          sums = λ g.
-              put .sums g
-              ∙ ap₂ _+_ (ap (λ (ps : List Pair). sum g ps) (open-none v f w₀)) (sum-flatMap g from (below x))
-              ∙ zero-add _
-              ∙ ap (λ (k : ℕ). sum (λ y. sum g (from y)) (below k)) (e ∙ sym (mesh-length v f w₀ p q))
-              ∙ rising-sum rules m g
-              ∙ ap (λ (m : Mesh Vertex). sum g (started rules m .«open»)) (mesh-but v f p q (emptied .but) (omega arith));
+          entries = start-entries e;
+          sums = λ g. put .sums g ∙ ap₂ _+_ (ap (λ (ps : List Pair). sum g ps) (open-none v f w₀)) (start-pairs e g) ∙ zero-add _;
         }

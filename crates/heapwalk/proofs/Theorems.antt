@@ -23,7 +23,8 @@ use Rattle.plainwalk.specs.Steps.{answerOf, StepDone}
 use Rattle.memory.specs.Entries.{foldsIn}
 use Rattle.plainwalk.specs.Whole.{WalkDone}
 use Rattle.walk.proofs.StateLaws.{SoundFew, plain-alike, same-trans}
-use Rattle.plainwalk.proofs.LentLaws.{lent, points-few}
+use Rattle.plainwalk.specs.Moments.{moment}
+use Rattle.plainwalk.proofs.LentLaws.{points-few}
 use Rattle.heapwalk.proofs.HoldLaws.{byHeap}
 use Rattle.heapwalk.specs.Steps.{HeapHolds, HeapStepDone}
 use Rattle.mesh.proofs.AroundLaws.{live-few}
@@ -49,7 +50,7 @@ module _ {v f : ℕ} {w u : List ℕ} {p q a b : List Float} {n m live : ℕ} (t
     (heap : HeapStepDone v f w p q n target limit bound w' p' q' r) (plain : StepDone v f u a b m target limit bound u' a' b' s) where
   -- the state is sound, and its points can be numbered
   fit : SoundFew (heapState v f w p q n)
-  fit = (h .sound, points-few (byHeap v f bound) (lent w p q n live) h)
+  fit = (h .sound, points-few (byHeap v f bound) (moment w p q n live) h)
 
   -- from the same state both steps give the same answer
   pub same-step : answerOf (r .step) ≡ answerOf (s .step)

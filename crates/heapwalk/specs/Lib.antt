@@ -2,3 +2,4 @@
 pub mod Entries
 pub mod Contracts
 pub mod Steps
+pub mod Chain

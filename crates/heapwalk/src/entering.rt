@@ -104,7 +104,7 @@ pub fn enter_start(
     bounds: Bounds,
 ) -> usize
     requires { ⌜ Tidy v f (now w) ⌝ ∗ ⌜ placesTo v f ≤ length (now p) ⌝ ∗ ⌜ costsTo v f ≤ length (now q) ⌝ }
-    ensures { λ r. ⌜ Started v f (now (w .entry)) (now (p .entry)) (now (q .entry)) (bounds .size) (started (rulesOf (bounds .limit) (bounds .size)) (meshOf v f (now (w .entry)) (now (p .entry)) (now (q .entry))) .«open») (now (w .exit)) (now (p .exit)) (now (q .exit)) r ⌝ }
+    ensures { λ r. ⌜ Started v f (now (w .entry)) (now (p .entry)) (now (q .entry)) (bounds .limit) (bounds .size) (started (rulesOf (bounds .limit) (bounds .size)) (meshOf v f (now (w .entry)) (now (p .entry)) (now (q .entry))) .«open») (now (w .exit)) (now (p .exit)) (now (q .exit)) r ⌝ }
 {
     queue::empty(w, q, v, f);
     let mut n = 0;

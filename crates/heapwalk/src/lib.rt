@@ -8,9 +8,9 @@ ghost use Rattle.memory.specs.Memory.{liveFaces};
 ghost use Rattle.mesh.specs.Contracts.Chains.{Tidy};
 ghost use Rattle.memory.specs.Points.{meshOf};
 ghost use Rattle.meaning.specs.Arithmetic.{rulesOf};
-ghost use Rattle.queue.specs.State.{heapState};
-ghost use Rattle.plainwalk.specs.Whole.{WalkedFrom, WalkDone};
+ghost use Rattle.plainwalk.specs.Moments.{moment};
 ghost use Rattle.heapwalk.specs.Steps.{PairHolds, PairAnswer, HeapHolds, TopHolds, TopTried, HeapStepDone};
+ghost use Rattle.heapwalk.specs.Chain.{ChainFrom, HeapWalked};
 ghost use Rattle.memory.specs.Layout.{costsTo, placesTo};
 
 mod entering;
@@ -134,7 +134,7 @@ fn walk_on(
     bounds: Bounds,
 ) -> Walked
     requires { ⌜ HeapHolds v f (now w) (now p) (now q) entries live (bounds .size) ⌝ }
-    ensures { λ r. ⌜ WalkedFrom v f (heapState v f (now (w .entry)) (now (p .entry)) (now (q .entry)) entries) (now (w .entry)) (now (p .entry)) (now (q .entry)) target (bounds .limit) (bounds .size) (now (w .exit)) (now (p .exit)) (now (q .exit)) r ⌝ }
+    ensures { λ r. ⌜ ChainFrom v f target (bounds .limit) (bounds .size) (moment (now (w .entry)) (now (p .entry)) (now (q .entry)) entries live) (now (w .exit)) (now (p .exit)) (now (q .exit)) r ⌝ }
 {
     let mut queued = entries;
     let mut faces_live = live;
@@ -171,7 +171,7 @@ pub fn heap_walk(
     bounds: Bounds,
 ) -> Walked
     requires { ⌜ Tidy v f (now w) ⌝ ∗ ⌜ length (liveFaces f (now w)) ≡ f ⌝ ∗ ⌜ placesTo v f ≤ length (now p) ⌝ ∗ ⌜ costsTo v f ≤ length (now q) ⌝ }
-    ensures { λ r. ⌜ WalkDone v f (now (w .entry)) (now (p .entry)) (now (q .entry)) target (bounds .limit) (bounds .size) (now (w .exit)) (now (p .exit)) (now (q .exit)) r ⌝ }
+    ensures { λ r. ⌜ HeapWalked v f target (bounds .limit) (bounds .size) (now (w .entry)) (now (p .entry)) (now (q .entry)) (now (w .exit)) (now (p .exit)) (now (q .exit)) r ⌝ }
 {
     let entries = entering::enter_start(w, p, q, v, f, bounds);
     walk_on(w, p, q, v, f, entries, f, target, bounds)

@@ -23,52 +23,33 @@ use Rattle.meaning.specs.Arithmetic.{rulesOf}
 use Rattle.memory.specs.Memory.{Room, liveFaces}
 use Rattle.memory.specs.Layout.{foldsFrom, workTo}
 use Rattle.memory.specs.Points.{meshOf}
-use Rattle.memory.specs.Entries.{foldsIn, withFold}
+use Rattle.memory.specs.Entries.{foldsIn}
 use Rattle.memory.proofs.MeshLaws.{mesh-length}
 use Rattle.mesh.specs.Contracts.Chains.{Tidy}
 use Rattle.plainwalk.specs.declared.Step.{Step}
 use Rattle.plainwalk.specs.declared.Step.the-variants.{Folded, Closed, Ended}
 use Rattle.plainwalk.specs.declared.Walked.{Walked}
 use Rattle.plainwalk.specs.Steps.{answerOf, StepWithin, Within}
+use Rattle.plainwalk.specs.Moments.{Moment, withCells, noted}
 use Rattle.plainwalk.specs.Whole.{startIn, WalkedFrom, WalkDone}
 use Rattle.plainwalk.proofs.NoteLaws.{folds-length, folds-same, folds-more, noted-but}
 use Rattle.plainwalk.proofs.MemoryLaws.{within-refl, within-but, within-more, within-then}
 use Rattle.mesh.proofs.AroundLaws.{live-few}
 
--- The lent memory between two steps, the number of what it keeps open pairs in, and the number of live faces.
-pub record Lent : Type 0 where
-  pub u32s : List ℕ
-  pub f32s : List Float
-  pub f64s : List Float
-  pub pairs : ℕ
-  pub live : ℕ
-
--- such a memory from its parts
-abbrev pub lent : List ℕ → List Float → List Float → ℕ → ℕ → Lent
-lent w p q n live = record { u32s = w; f32s = p; f64s = q; pairs = n; live = live }
-
--- a memory with other u32 cells
-abbrev pub withCells : Lent → List ℕ → Lent
-withCells m w = lent w (m .f32s) (m .f64s) (m .pairs) (m .live)
-
--- a memory with the fold x written down after n others
-abbrev pub noted : ℕ → ℕ → ℕ → Pair → Lent → Lent
-noted v f n x m = withCells m (withFold v f n (x .keep) (x .remove) (m .u32s))
-
--- How such a memory holds a state of the plain walk. Writing a fold down leaves it.
+-- How the memory holds a state of the plain walk. Writing a fold down leaves it.
 pub record Holding (v f : ℕ) : Type 1 where
-  pub state : Lent → State Vertex
-  pub Held : Lent → Type 0
-  pub same-mesh : (m : Lent) → state m .mesh ≡ meshOf v f (m .u32s) (m .f32s) (m .f64s)
-  pub tidy : (m : Lent) → Held m → Tidy v f (m .u32s)
-  pub sound : (m : Lent) → Held m → Sound (state m)
-  pub counted : (m : Lent) → Held m → m .live ≡ length (liveFaces f (m .u32s))
-  pub still-held : (m : Lent) (w : List ℕ) → But (foldsFrom v f) (workTo v f) (m .u32s) w → Held m → Held (withCells m w)
-  pub still-state : (m : Lent) (w : List ℕ) → But (foldsFrom v f) (workTo v f) (m .u32s) w → Held m → state (withCells m w) ≡ state m
+  pub state : Moment → State Vertex
+  pub Held : Moment → Type 0
+  pub same-mesh : (m : Moment) → state m .mesh ≡ meshOf v f (m .u32s) (m .f32s) (m .f64s)
+  pub tidy : (m : Moment) → Held m → Tidy v f (m .u32s)
+  pub sound : (m : Moment) → Held m → Sound (state m)
+  pub counted : (m : Moment) → Held m → m .live ≡ length (liveFaces f (m .u32s))
+  pub still-held : (m : Moment) (w : List ℕ) → But (foldsFrom v f) (workTo v f) (m .u32s) w → Held m → Held (withCells m w)
+  pub still-state : (m : Moment) (w : List ℕ) → But (foldsFrom v f) (workTo v f) (m .u32s) w → Held m → state (withCells m w) ≡ state m
 
 module _ {v f : ℕ} (h : Holding v f) where
   -- the points of a held state are few enough to be numbered
-  pub points-few : (m : Lent) → h .Held m → length (h .state m .mesh .points) ≤ 2 ^ 32
+  pub points-few : (m : Moment) → h .Held m → length (h .state m .mesh .points) ≤ 2 ^ 32
   points-few m held =
       omega (
         arith,
@@ -78,16 +59,16 @@ module _ {v f : ℕ} (h : Holding v f) where
       )
 
   -- its faces are the live faces, and at most f
-  faces-are : (m : Lent) → facesLeft (h .state m) ≡ length (liveFaces f (m .u32s))
+  faces-are : (m : Moment) → facesLeft (h .state m) ≡ length (liveFaces f (m .u32s))
   unfolding meshOf
   faces-are m = ap (λ (mesh : Mesh Vertex). length (mesh .faces)) (h .same-mesh m)
 
-  pub faces-few : (m : Lent) → facesLeft (h .state m) ≤ f
+  pub faces-few : (m : Moment) → facesLeft (h .state m) ≤ f
   faces-few m = omega (arith, faces-are m, live-few f (m .u32s))
 
   module _ (target : ℕ) (limit : Limit) (bound : Float) where
     -- it is an engine of the plain machine
-    abbrev pub engine : Engine (plainMachine (rulesOf limit bound) target) Lent
+    abbrev pub engine : Engine (plainMachine (rulesOf limit bound) target) Moment
     engine = record {
       Good = SoundWithin f;
       Fit = SoundFew;
@@ -107,23 +88,23 @@ module _ {v f : ℕ} (h : Holding v f) where
     }
 
     -- A step in the lent memory is the plain walk's.
-    pub record Taken (m m' : Lent) (step : Step) : Type 0 where
+    pub record Taken (m m' : Moment) (step : Step) : Type 0 where
       pub holds : h .Held m'
       pub within : StepWithin v f (m .u32s) (m .f32s) (m .f64s) (m' .u32s) (m' .f32s) (m' .f64s)
       pub same-answer : answerOf step ≡ answer (rulesOf limit bound) target (h .state m)
       pub same-state : SameState (h .state m') (after (rulesOf limit bound) (h .state m) (answer (rulesOf limit bound) target (h .state m)))
 
     -- Where a walk in the lent memory has come from m₀, after n folds.
-    pub record Walking (m₀ m : Lent) (n : ℕ) : Type 0 where
+    pub record Walking (m₀ m : Moment) (n : ℕ) : Type 0 where
       pub start : h .Held m₀
       pub going : Going engine m₀ m n
 
     -- before the first step
-    pub walking-start : (m : Lent) → h .Held m → Walking m m 0
+    pub walking-start : (m : Moment) → h .Held m → Walking m m 0
     unfolding foldsIn below
     walking-start m held = record { start = held; going = any.going-start engine m held refl }
 
-module _ {v f : ℕ} {h : Holding v f} {target : ℕ} {limit : Limit} {bound : Float} {m₀ m : Lent} {n : ℕ} (walking : Walking h target limit bound m₀ m n) where
+module _ {v f : ℕ} {h : Holding v f} {target : ℕ} {limit : Limit} {bound : Float} {m₀ m : Moment} {n : ℕ} (walking : Walking h target limit bound m₀ m n) where
   -- each fold has killed a face, so with those that are left they are at most f
   pub folds-few : n + m .live ≤ f
   folds-few =
@@ -136,7 +117,7 @@ module _ {v f : ℕ} {h : Holding v f} {target : ℕ} {limit : Limit} {bound : F
         faces-few h m₀,
       )
 
-  module _ {m' : Lent} {step : Step} (done : Taken h target limit bound m m' step) where
+  module _ {m' : Moment} {step : Step} (done : Taken h target limit bound m m' step) where
     -- the folds before the step stay written
     taken : StepOf (engine h target limit bound) m m' (answerOf step) n
     taken = record {
@@ -214,7 +195,7 @@ module _ {v f : ℕ} {h : Holding v f} {target : ℕ} {limit : Limit} {bound : F
         }
 
 -- the walk from a memory that holds the start, in whatever order its open pairs are listed, is the whole walk
-pub walked-whole : {v f : ℕ} (h : Holding v f) (m : Lent) {w w' : List ℕ} {p q p' q' : List Float} {target : ℕ} {limit : Limit} {bound : Float} {r : Walked} →
+pub walked-whole : {v f : ℕ} (h : Holding v f) (m : Moment) {w w' : List ℕ} {p q p' q' : List Float} {target : ℕ} {limit : Limit} {bound : Float} {r : Walked} →
     h .Held m → SameState (h .state m) (startIn v f w p q limit bound) → Within v f w p q (m .u32s) (m .f32s) (m .f64s) →
     WalkedFrom v f (h .state m) (m .u32s) (m .f32s) (m .f64s) target limit bound w' p' q' r → WalkDone v f w p q target limit bound w' p' q' r
 walked-whole {v} {f} h m {target = target} {limit} {bound} held same within done =

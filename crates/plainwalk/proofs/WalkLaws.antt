@@ -25,7 +25,8 @@ use Rattle.plainwalk.specs.declared.Walked.{Walked}
 use Rattle.plainwalk.specs.Steps.{Holds, StepDone}
 use Rattle.plainwalk.specs.Whole.{startIn, WalkedFrom, WalkDone}
 use Rattle.walk.proofs.StateLaws.{sound-bag}
-use Rattle.plainwalk.proofs.LentLaws.{lent, Holding, Taken, walked-whole}
+use Rattle.plainwalk.specs.Moments.{moment}
+use Rattle.plainwalk.proofs.LentLaws.{Holding, Taken, walked-whole}
 use Rattle.plainwalk.proofs.MemoryLaws.{state-but, open-few, holds-but, within-but}
 use Rattle.memory.proofs.MeshLaws.{mesh-length, mesh-but}
 
@@ -58,7 +59,7 @@ plain v f = record {
 
 -- its step is taken as the plain walk's
 pub plain-step : {v f : ℕ} {w : List ℕ} {p q : List Float} {n live target : ℕ} {limit : Limit} {bound : Float} {w' : List ℕ} {p' q' : List Float} {r : Stepped} →
-    StepDone v f w p q n target limit bound w' p' q' r → Taken (plain v f) target limit bound (lent w p q n live) (lent w' p' q' (r .«open») (r .live)) (r .step)
+    StepDone v f w p q n target limit bound w' p' q' r → Taken (plain v f) target limit bound (moment w p q n live) (moment w' p' q' (r .«open») (r .live)) (r .step)
 plain-step done = record { holds = done .holds; within = done .within; same-answer = done .same-answer; same-state = done .same-state }
 
 -- ---- from the start
@@ -86,4 +87,4 @@ module _ {v f : ℕ} {w w₁ : List ℕ} (p q : List Float) {n : ℕ} (limit : L
   -- and so the walk from there is the whole walk
   pub walk-done : {target : ℕ} {w' : List ℕ} {p' q' : List Float} {r : Walked} →
       WalkedFrom v f (stateOf v f w₁ p q n) w₁ p q target limit bound w' p' q' r → WalkDone v f w p q target limit bound w' p' q' r
-  walk-done = walked-whole (plain v f) (lent w₁ p q n f) start-holds start-state (within-but p q (add .but) (omega arith))
+  walk-done = walked-whole (plain v f) (moment w₁ p q n f) start-holds start-state (within-but p q (add .but) (omega arith))

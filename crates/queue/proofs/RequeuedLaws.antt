@@ -3,7 +3,7 @@
 use Prim.Native.Nat.{ℕ, _+_}
 use native.Mathlib.Omega.{arith}
 use native.Mathlib.Nat.{add-zero}
-use mathlib.Core.Path.{_≡_, refl, sym, ap₂, _∙_}
+use mathlib.Core.Path.{_≡_, refl, sym, ap, ap₂, _∙_}
 use mathlib.Core.List.{List, [], _++_}
 use mathlib.Core.Bool.{Bool, true, not, cond}
 use Rattle.lists.specs.Lists.{sum, those, every, SameBag}
@@ -22,6 +22,14 @@ requeued-none stamps entries = record {
   old = refl;
   were = bag-refl;
   are = record { sums = λ g. sym (sum-append g entries [] ∙ add-zero _) };
+}
+
+-- where there was none, just the new ones are queued
+pub requeued-all : {stamps : List ℕ} {before new after : List StoredEntry} → before ≡ [] → Requeued stamps before new after → SameBag after new
+unfolding sum
+requeued-all {before = before} {new} none one = record {
+  sums = λ g.
+      omega (arith, one .are .sums g, sum-append g (one .stayed) new, one .were .sums g, sum-append g (one .thrown) (one .stayed), ap (sum g) none);
 }
 
 -- the new ones may be listed in another order

@@ -1,17 +1,19 @@
--- `heapwalk::walk_on` meets its contract. The loop's invariant: the memory holds the state that the plain walk comes to in some number of steps, and the
--- folds made on the way are written down. The measure is the plain walk's budget. Assumes nothing.
+-- `heapwalk::walk_on` meets its contract. The loop's invariant: a chain of steps leads from the start to the memory as it is, and the folds
+-- told on it are written down. The measure is the plain walk's budget. Assumes nothing.
 use native.Mathlib.Omega.{arith}
 use borrow.Author.Needs.{needs}
 use Rattle.walk.specs.Walk.{budget}
 use Rattle.queue.specs.State.{heapState}
-use Rattle.plainwalk.proofs.LentLaws.{lent, Walking, walking-start, folds-few, room-folded, turn-folded, turn-closed, less-folded, less-closed, walking-end}
-use Rattle.heapwalk.proofs.HoldLaws.{byHeap, heap-step}
+use Rattle.plainwalk.specs.Moments.{moment}
+use Rattle.plainwalk.proofs.LentLaws.{folds-few, room-folded, less-folded, less-closed}
+use Rattle.heapwalk.proofs.HoldLaws.{heap-step}
+use Rattle.heapwalk.proofs.ChainLaws.{Chaining, chaining-start, chaining-folded, chaining-closed, chaining-end}
 use Rattle.heapwalk.proofs.walk_on.Statement.{statement}
 use Rattle.heapwalk.proofs.walk_on.Tie as tie
 
 abbrev Inv-loop : tie.InvT-loop
 Inv-loop w₀ p₀ q₀ v f n₀ live₀ target bounds open₀ faces₀ folds₀ w p q n live folds =
-    Walking (byHeap v f (bounds .size)) target (bounds .limit) (bounds .size) (lent w₀ p₀ q₀ n₀ live₀) (lent w p q n live) folds
+    Chaining v f target (bounds .limit) (bounds .size) (moment w₀ p₀ q₀ n₀ live₀) (moment w p q n live) folds
 
 abbrev μ-loop : tie.MeasureT-loop
 μ-loop w₀ p₀ q₀ v f n₀ live₀ target bounds open₀ faces₀ folds₀ w p q n live folds = budget f (heapState v f w p q n)
@@ -19,49 +21,49 @@ abbrev μ-loop : tie.MeasureT-loop
 loop-holds : tie.Need-loop-holds Inv-loop μ-loop
 loop-holds c =
     let start = c .before .before .before in
-    walking-start (byHeap (start .args .v) (start .args .f) (start .args .bounds .size)) (start .args .target) (start .args .bounds .limit) (start .args .bounds .size) _ (start .pre)
+    chaining-start (start .args .v) (start .args .f) (start .args .target) (start .args .bounds .limit) (start .args .bounds .size) _ (start .pre)
 
 heap-step-requires : tie.Need-heap-step-requires Inv-loop μ-loop
-heap-step-requires c κs = c .before .before .before .loop .inv .going .holds
+heap-step-requires c κs = c .before .before .before .loop .inv .walking .going .holds
 
 note-fold-requires : tie.Need-note-fold-requires Inv-loop μ-loop
 note-fold-requires c κs =
     let stepped = c .before .before .before .before .before .before .before .before .before .before in
-    room-folded (stepped .before .before .before .before .loop .inv) (heap-step (stepped .heap-step .ensures)) (c .before .before .step .given .1)
+    room-folded (stepped .before .before .before .before .loop .inv .walking) (heap-step (stepped .heap-step .ensures)) (c .before .before .step .given .1)
 
 add-folds : tie.Need-add-folds Inv-loop μ-loop
 add-folds c =
     let turn = c .before .before .before .before .before .before .before .before .before .before .before .before .before .before .before .before .before in
-    omega (arith, folds-few (turn .loop .inv), turn .before .before .before .before .pre .«open» .tidy .room)
+    omega (arith, folds-few (turn .loop .inv .walking), turn .before .before .before .before .pre .«open» .tidy .room)
 
 loop-less : tie.Need-loop-less Inv-loop μ-loop
 loop-less c =
     let noted = c .before .before in
     let stepped = noted .before .before .before .before .before .before .before .before .before .before .before in
     rw (noted .note-fold .ensures)
-    (less-folded (stepped .before .before .before .before .loop .inv) (heap-step (stepped .heap-step .ensures)) (noted .before .before .before .step .given .1))
+    (less-folded (stepped .before .before .before .before .loop .inv .walking) (heap-step (stepped .heap-step .ensures)) (noted .before .before .before .step .given .1))
 
 loop-again : tie.Need-loop-again Inv-loop μ-loop
 loop-again c =
     let noted = c .before .before in
     let stepped = noted .before .before .before .before .before .before .before .before .before .before .before in
     rw (noted .note-fold .ensures)
-    (turn-folded (stepped .before .before .before .before .loop .inv) (heap-step (stepped .heap-step .ensures)) (noted .before .before .before .step .given .1))
+    (chaining-folded (stepped .before .before .before .before .loop .inv) (stepped .heap-step .ensures) (noted .before .before .before .step .given .1))
 
 loop-less-2 : tie.Need-loop-less-2 Inv-loop μ-loop
 loop-less-2 c =
     let stepped = c .before .before .before .before .before .before .before .before in
-    less-closed (stepped .before .before .before .before .loop .inv) (heap-step (stepped .heap-step .ensures)) (c .enum-told .given .1)
+    less-closed (stepped .before .before .before .before .loop .inv .walking) (heap-step (stepped .heap-step .ensures)) (c .enum-told .given .1)
 
 loop-again-2 : tie.Need-loop-again-2 Inv-loop μ-loop
 loop-again-2 c =
     let stepped = c .before .before .before .before .before .before .before .before in
-    turn-closed (stepped .before .before .before .before .loop .inv) (heap-step (stepped .heap-step .ensures)) (c .enum-told .given .1)
+    chaining-closed (stepped .before .before .before .before .loop .inv) (stepped .heap-step .ensures) (c .enum-told .given .1)
 
 returns : tie.Need-returns Inv-loop μ-loop
 returns c =
     let stepped = c .before .before .before .before .before .before .before .before in
-    walking-end (stepped .before .before .before .before .loop .inv) (heap-step (stepped .heap-step .ensures)) (c .enum-told2 .given .1)
+    chaining-end (stepped .before .before .before .before .loop .inv) (stepped .heap-step .ensures) (c .enum-told2 .given .1)
 
 pub walk-on-spec : {M : Type 1} → statement M
 walk-on-spec =

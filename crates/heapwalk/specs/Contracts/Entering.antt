@@ -6,7 +6,7 @@ use lib.ListN.{length}
 use lib.Ieee.{Float}
 use Rattle.placement.specs.declared.Limit.{Limit}
 use Rattle.walk.specs.declared.Pair.{Pair}
-use Rattle.lists.specs.Lists.{sum}
+use Rattle.lists.specs.Lists.{sum, SameBag}
 use Rattle.lists.specs.Frames.{But, FloatsBut}
 use Rattle.mesh.specs.Contracts.Chains.{Tidy}
 use Rattle.memory.specs.Entries.{stamp}
@@ -36,11 +36,12 @@ pub record Entered (v f : ℕ) (w : List ℕ) (p q : List Float) (n : ℕ) (limi
   pub requeued : Requeued (stampsOf v f w) (entriesIn v f w p q n) (entriesFor v f w p q limit bound more) (entriesIn v f w' p' q' n')
   pub «open» : Open v f w' p' q' n' bound
 
--- the queue at the start: it holds an entry for each pair of a list, and no stamp has grown
-pub record Started (v f : ℕ) (w : List ℕ) (p q : List Float) (bound : Float) (more : List Pair) (w' : List ℕ) (p' q' : List Float) (n' : ℕ) : Type 0 where
+-- the queue at the start: it holds an entry for each pair of a list and no other, and no stamp has grown
+pub record Started (v f : ℕ) (w : List ℕ) (p q : List Float) (limit : Limit) (bound : Float) (more : List Pair) (w' : List ℕ) (p' q' : List Float) (n' : ℕ) : Type 0 where
   pub but : But (stampsFrom v f) (foldsFrom v f) w w'
   pub points-but : FloatsBut (3 * v) (placesTo v f) p p'
   pub quadrics-but : FloatsBut (10 * v) (costsTo v f) q q'
   pub «open» : Open v f w' p' q' n' bound
   pub stamps : (x : ℕ) → x < v → stamp v f w' x ≡ 0
+  pub entries : SameBag (entriesIn v f w' p' q' n') (entriesFor v f w' p' q' limit bound more)
   pub sums : (g : Pair → ℕ) → sum g (openIn v f w' n') ≡ sum g more

@@ -4,14 +4,15 @@ use native.Mathlib.Omega.{arith}
 use borrow.Author.Needs.{needs}
 use Rattle.walk.specs.Walk.{budget}
 use Rattle.openpairs.specs.State.{stateOf}
-use Rattle.plainwalk.proofs.LentLaws.{lent, Walking, walking-start, folds-few, room-folded, turn-folded, turn-closed, less-folded, less-closed, walking-end}
+use Rattle.plainwalk.specs.Moments.{moment}
+use Rattle.plainwalk.proofs.LentLaws.{Walking, walking-start, folds-few, room-folded, turn-folded, turn-closed, less-folded, less-closed, walking-end}
 use Rattle.plainwalk.proofs.WalkLaws.{plain, plain-step}
 use Rattle.plainwalk.proofs.walk_on.Statement.{statement}
 use Rattle.plainwalk.proofs.walk_on.Tie as tie
 
 abbrev Inv-loop : tie.InvT-loop
 Inv-loop w₀ p₀ q₀ v f n₀ live₀ target bounds open₀ faces₀ folds₀ w p q n live folds =
-    Walking (plain v f) target (bounds .limit) (bounds .size) (lent w₀ p₀ q₀ n₀ live₀) (lent w p q n live) folds
+    Walking (plain v f) target (bounds .limit) (bounds .size) (moment w₀ p₀ q₀ n₀ live₀) (moment w p q n live) folds
 
 abbrev μ-loop : tie.MeasureT-loop
 μ-loop w₀ p₀ q₀ v f n₀ live₀ target bounds open₀ faces₀ folds₀ w p q n live folds = budget f (stateOf v f w p q n)
