@@ -8,8 +8,9 @@ pub mod MemoryLaws
 pub mod StampLaws
 pub mod FoldedLaws
 pub mod AnswerLaws
-mod TriedLaws
+pub mod TriedLaws
 pub mod TakenLaws
 pub mod HoldLaws
 pub mod ChainLaws
+pub mod RoomLaws
 pub mod Theorems

@@ -39,7 +39,7 @@ use Rattle.heapwalk.proofs.EnterLaws.{entered-none, entered-then, enter
 use Rattle.memory.specs.Layout.{placesTo, stampsFrom}
 
 -- no entry, no open pair
-open-none : (v f : ℕ) (w : List ℕ) → openIn v f w 0 ≡ []
+pub open-none : (v f : ℕ) (w : List ℕ) → openIn v f w 0 ≡ []
 unfolding openIn below those
 open-none v f w = refl
 

@@ -1,22 +1,18 @@
--- Demand 3: the heap walk is the plain walk. Its step answers what the plain walk's step answers, three entries for each face are always room enough, and
--- the two walks make the same folds in the same order and leave the same mesh.
+-- Demand 3: the heap walk is the plain walk. From every state on its chain the step answers what the plain walk's step answers, and so the two walks make the
+-- same folds in the same order and leave the same mesh. That three entries for each face are room enough is `RoomLaws`.
 -- Assumes nothing.
-use Prim.Native.Nat.{ℕ, _+_, _*_, _≤_}
-use native.Mathlib.Omega.{arith}
-use mathlib.Core.Path.{_≡_, sym, _∙_}
+use Prim.Native.Nat.{ℕ}
+use mathlib.Core.Path.{_≡_, sym, subst, _∙_}
 use mathlib.Core.List.{List}
 use lib.Ieee.{Float}
 use lib.ListN.{length}
 use Rattle.placement.specs.declared.Limit.{Limit}
-use Rattle.walk.specs.declared.Pair.{Pair}
-use Rattle.walk.specs.Walk.{folded, after, SameState}
-use Rattle.walk.proofs.SoundLaws.{isOpen}
+use Rattle.walk.specs.Walk.{SameState}
 use Rattle.lists.proofs.BagLaws.{bag-sym}
-use Rattle.walk.proofs.StepLaws.{open-bound, fold-room}
 use Rattle.memory.specs.Points.{meshOf}
 use Rattle.meaning.specs.Arithmetic.{rulesOf}
 use Rattle.openpairs.specs.State.{stateOf}
-use Rattle.queue.specs.State.{openIn, heapState}
+use Rattle.queue.specs.State.{heapState}
 use Rattle.plainwalk.specs.declared.Stepped.{Stepped}
 use Rattle.plainwalk.specs.declared.Walked.{Walked}
 use Rattle.plainwalk.specs.Steps.{answerOf, StepDone}
@@ -25,23 +21,12 @@ use Rattle.plainwalk.specs.Whole.{WalkDone}
 use Rattle.walk.proofs.StateLaws.{SoundFew, plain-alike, same-trans}
 use Rattle.plainwalk.specs.Moments.{moment}
 use Rattle.plainwalk.proofs.LentLaws.{points-few}
-use Rattle.heapwalk.proofs.HoldLaws.{byHeap}
+use Rattle.memory.specs.Memory.{liveFaces}
+use Rattle.mesh.specs.Contracts.Chains.{Tidy}
+use Rattle.heapwalk.proofs.HoldLaws.{byHeap, start-holds, walk-done}
+use Rattle.heapwalk.proofs.ChainLaws.{chain-walked}
+use Rattle.heapwalk.specs.Chain.{HeldAt, HeapWalked}
 use Rattle.heapwalk.specs.Steps.{HeapHolds, HeapStepDone}
-use Rattle.mesh.proofs.AroundLaws.{live-few}
-
--- ---- room
-
-module _ {v f : ℕ} {w : List ℕ} {p q : List Float} {n live : ℕ} {bound : Float} (h : HeapHolds v f w p q n live bound) where
-  -- the entries are never more than three for each input face, and the current ones never more than three for each live one
-  pub three-a-face-hold : (n ≤ 3 * f) × (length (openIn v f w n) ≤ 3 * live)
-  unfolding heapState meshOf
-  three-a-face-hold = (h .«open» .queue .few, omega (arith, open-bound (heapState v f w p q n) (h .sound), h .counted))
-
-  -- after a fold, what stays open and what it opens fit too, with three to spare: so a full queue that throws its old entries out has room for each
-  pub three-a-face-suffice : (limit : Limit) (x : Pair) → isOpen (heapState v f w p q n) x →
-      length (after (rulesOf limit bound) (heapState v f w p q n) (folded x) .«open») + 3 ≤ 3 * f
-  unfolding heapState meshOf
-  three-a-face-suffice limit x is-open = omega (arith, fold-room (rulesOf limit bound) (heapState v f w p q n) (h .sound) x is-open, live-few f w)
 
 -- ---- the step
 
@@ -64,6 +49,16 @@ module _ {v f : ℕ} {w u : List ℕ} {p q a b : List Float} {n m live : ℕ} (t
       (record { same-mesh = sym (plain .same-state .same-mesh); same-open = bag-sym (plain .same-state .same-open) }))
 
 -- ---- the walks
+
+-- the chain of the heap walk is the plain walk
+pub heap-walk-is-the-plain-walk : {v f : ℕ} {w : List ℕ} {p q : List Float} (target : ℕ) (limit : Limit) (bound : Float) {w' : List ℕ} {p' q' : List Float} {r : Walked} →
+    Tidy v f w → length (liveFaces f w) ≡ f → HeapWalked v f target limit bound w p q w' p' q' r → WalkDone v f w p q target limit bound w' p' q' r
+heap-walk-is-the-plain-walk {v} {f} target limit bound tidy whole walked =
+    let first = walked .first in
+    let held : HeldAt v f target limit bound first =
+    subst (λ (live : ℕ). HeapHolds v f (first .u32s) (first .f32s) (first .f64s) (first .pairs) live bound) (sym (walked .all-live))
+    (start-holds limit bound tidy whole (walked .start)) in
+    walk-done limit bound tidy whole (walked .start) (chain-walked v f target limit bound first held (walked .chain))
 
 -- whichever walk made them: from the same memory two walks have made the same folds in the same order, and left the same mesh, place by place and bit by bit
 module _ {v f : ℕ} {w : List ℕ} {p q : List Float} {target : ℕ} {limit : Limit} {bound : Float} {w₁ w₂ : List ℕ} {p₁ q₁ p₂ q₂ : List Float} {r₁ r₂ : Walked}

@@ -18,6 +18,7 @@ use Rattle.meaning.specs.Answers.{verdictOf}
 use Rattle.meaning.specs.Outcome.{startOf, targetOf, lastMesh, foldsWalked, Outcome, foldsBy, foldsOf}
 use Rattle.meaning.specs.Call.{Lent, lent, inputOf, Leaves, Thinned}
 use Rattle.walking.specs.declared.Came.{Came}
+use Rattle.walking.specs.declared.Engine.{Engine}
 use Rattle.walking.specs.Contracts.{Working, inputWalked, MeshWalked}
 use Rattle.thinning.specs.Contracts.{Standing, Zeroed, outcomeIn, Finished}
 use Rattle.walking.proofs.WithinLaws.{working-within}
@@ -77,11 +78,20 @@ leaves-within o works within leaves =
 
 -- what the walk came to is the same whatever room there is
 pub same-walk : (points : List Float) (faces : List ℕ) (options : Options) (before : Lent)
-    {u u' : List ℕ} {p q p' q' : List Float} {folds folds' : List ℕ} {came : Came} →
-    MeshWalked (inputWalked points faces options) u p q u' p' q' folds folds' came →
-    MeshWalked (inputOf points faces options before) u p q u' p' q' folds folds' came
+    {engine : Engine} {u u' : List ℕ} {p q p' q' : List Float} {folds folds' : List ℕ} {came : Came} →
+    MeshWalked engine (inputWalked points faces options) u p q u' p' q' folds folds' came →
+    MeshWalked engine (inputOf points faces options before) u p q u' p' q' folds folds' came
 unfolding lastMesh foldsWalked startOf targetOf
 same-walk points faces options before walked = record {
+  walked =
+      record {
+        laid-u32s = walked .walked .laid-u32s;
+        laid-f32s = walked .walked .laid-f32s;
+        laid-f64s = walked .walked .laid-f64s;
+        laid = walked .walked .laid;
+        live = walked .walked .live;
+        by-engine = walked .walked .by-engine;
+      };
   tidy = walked .tidy;
   within = walked .within;
   last-mesh = walked .last-mesh;
@@ -93,8 +103,8 @@ same-walk points faces options before walked = record {
   folds-listed = walked .folds-listed;
 }
 
-module _ (i : Input) {points : List Float} {faces : List ℕ} {u w : List ℕ} {pu qu p q : List Float} {folds folds' : List ℕ} {came : Came}
-    (walked : MeshWalked i u pu qu w p q folds folds' came) where
+module _ (i : Input) {engine : Engine} {points : List Float} {faces : List ℕ} {u w : List ℕ} {pu qu p q : List Float} {folds folds' : List ℕ} {came : Came}
+    (walked : MeshWalked engine i u pu qu w p q folds folds' came) where
   -- what the last stage asks
   pub finish-asked : 3 * pointsIn i ≤ length points → 3 * facesIn i ≤ length faces → Working (pointsIn i) (facesIn i) u pu qu →
       Standing (pointsIn i) (facesIn i) came (lent points faces w p q)

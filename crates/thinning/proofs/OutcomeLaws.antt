@@ -20,6 +20,7 @@ use Rattle.meaning.specs.Input.{Input, facesIn}
 use Rattle.meaning.specs.Answers.{verdictOf}
 use Rattle.meaning.specs.Outcome.{rulesIn, lastMesh, partsIn, Outcome, outcomeBy, outcome}
 use Rattle.walking.specs.declared.Came.{Came}
+use Rattle.walking.specs.declared.Engine.{Engine}
 use Rattle.walking.specs.Contracts.{MeshWalked}
 use Rattle.thinning.specs.Contracts.{stuckOutcome, outcomeIn}
 use Rattle.thinning.proofs.MemoryLaws.{parts-written}
@@ -45,8 +46,8 @@ pub outcome-worked : (f : ℕ) (came : Came) (u : List ℕ) (p : List Float) →
 outcome-worked f came u p = by-test (eqb (came .folds) 0 && ltb (came .target) f) (λ t. rw t) (λ t. rw t)
 
 -- the outcome of the mesh in memory is the input's
-pub outcome-is : (i : Input) {u w : List ℕ} {pu qu p q : List Float} {folds folds' : List ℕ} {came : Came} →
-    verdictOf i ≡ Admitted → MeshWalked i u pu qu w p q folds folds' came → outcomeIn (facesIn i) came w p ≡ outcome i
+pub outcome-is : (i : Input) {engine : Engine} {u w : List ℕ} {pu qu p q : List Float} {folds folds' : List ℕ} {came : Came} →
+    verdictOf i ≡ Admitted → MeshWalked engine i u pu qu w p q folds folds' came → outcomeIn (facesIn i) came w p ≡ outcome i
 unfolding meshOf outcome outcomeBy
 outcome-is i {w = w} {p = p} {q = q} verdict walked =
     let same : liveFaces (facesIn i) w ≡ lastMesh i .faces = ap (λ (m : Mesh Vertex). m .faces) (walked .last-mesh) in

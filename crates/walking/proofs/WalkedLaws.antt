@@ -2,7 +2,7 @@
 -- Assumes nothing.
 use Prim.Native.Nat.{ℕ, _*_, _≤_}
 use native.Mathlib.Omega.{arith}
-use mathlib.Core.Path.{_≡_, ap, _∙_}
+use mathlib.Core.Path.{_≡_, sym, ap, _∙_}
 use mathlib.Core.List.{List}
 use mathlib.Core.Bool.{Bool}
 use lib.Ieee.{Float}
@@ -17,7 +17,12 @@ use Rattle.plainwalk.proofs.Theorems.{plain-walk-fewer}
 use Rattle.meaning.specs.Input.{Input, pointsIn, facesIn}
 use Rattle.meaning.specs.Outcome.{startOf, targetOf, lastMesh, foldsWalked}
 use Rattle.meaning.specs.Call.{listed}
-use Rattle.walking.specs.Contracts.{Working, LaidOut, Walkable, MeshWalked}
+use Rattle.placement.specs.declared.Limit.{Limit}
+use Rattle.heapwalk.specs.Chain.{HeapWalked}
+use Rattle.heapwalk.proofs.Theorems.{heap-walk-is-the-plain-walk}
+use Rattle.walking.specs.declared.Engine.{Engine}
+use Rattle.walking.specs.declared.Engine.the-variants.{Plain}
+use Rattle.walking.specs.Contracts.{Working, LaidOut, Walkable, WalkedBy, MeshWalked}
 use Rattle.walking.proofs.WithinLaws.{working-within}
 use Rattle.walking.proofs.LaidLaws.{borders-few}
 use Rattle.plainwalk.proofs.MemoryLaws.{within-then}
@@ -35,32 +40,42 @@ walk-asked room laid =
 pub plain-room : {v f : ℕ} {w : List ℕ} {p q : List Float} → Walkable v f w p q → (3 * v ≤ length p) × (10 * v ≤ length q)
 plain-room asked = (omega arith, omega arith)
 
-module _ (i : Input) {target borders : ℕ} {u w w' : List ℕ} {pu qu p q p' q' : List Float} {r : Walked} (aim : target ≡ targetOf i)
+-- the plain walk says that it is walked, and the heap walk its chain
+module _ {engine : Engine} {v f target : ℕ} {limit : Limit} {bound : Float} {w w' : List ℕ} {p q p' q' : List Float} {r : Walked} where
+  pub by-plain : engine ≡ Plain → WalkDone v f w p q target limit bound w' p' q' r → WalkedBy engine v f target limit bound w p q w' p' q' r
+  by-plain told walked = record { done = walked; chained = λ heap. let z : _≡_ {A = ℕ} 0 1 = cc (sym told ∙ heap) in absurd (omega arith) }
+
+  pub by-heap : Walkable v f w p q → HeapWalked v f target limit bound w p q w' p' q' r → WalkedBy engine v f target limit bound w p q w' p' q' r
+  by-heap asked walked =
+      record { done = heap-walk-is-the-plain-walk target limit bound (asked .tidy) (asked .all-live) walked; chained = λ told. walked }
+
+module _ {engine : Engine} (i : Input) {target borders : ℕ} {u w w' : List ℕ} {pu qu p q p' q' : List Float} {r : Walked} (aim : target ≡ targetOf i)
     (laid : LaidOut (pointsIn i) (facesIn i) (i .points) (i .faces) (i .options .preserve) u pu qu w p q borders)
-    (done : WalkDone (pointsIn i) (facesIn i) w p q target (i .options .limit) (i .bound) w' p' q' r) where
+    (walked : WalkedBy engine (pointsIn i) (facesIn i) target (i .options .limit) (i .bound) w p q w' p' q' r) where
   last-mesh : meshOf (pointsIn i) (facesIn i) w' p' q' ≡ lastMesh i
   unfolding lastMesh startOf
-  last-mesh = done .same-mesh ∙ rw (laid .same-mesh, aim)
+  last-mesh = walked .done .same-mesh ∙ rw (laid .same-mesh, aim)
 
   folds-made : r .folds ≡ length (foldsWalked i)
   unfolding foldsWalked startOf
-  folds-made = done .same-folds ∙ rw (laid .same-mesh, aim)
+  folds-made = walked .done .same-folds ∙ rw (laid .same-mesh, aim)
 
   -- the folds written down are the input's
   folds-are : foldsIn (pointsIn i) (facesIn i) w' (r .folds) ≡ foldsWalked i
   unfolding foldsWalked startOf
-  folds-are = done .same-list ∙ rw (laid .same-mesh, aim)
+  folds-are = walked .done .same-list ∙ rw (laid .same-mesh, aim)
 
   -- and there are at most as many as faces
   pub folds-few : r .folds ≤ facesIn i
-  folds-few = omega (arith, plain-walk-fewer (laid .tidy) done, laid .all-live)
+  folds-few = omega (arith, plain-walk-fewer (laid .tidy) (walked .done), laid .all-live)
 
   -- the walk's contract, once they are listed
   pub mesh-walked : (folds : List ℕ) {folds' : List ℕ} → folds' ≡ listed (foldsIn (pointsIn i) (facesIn i) w' (r .folds)) folds →
-      MeshWalked i u pu qu w' p' q' folds folds' (record { target = target; borders = borders; folds = r .folds })
+      MeshWalked engine i u pu qu w' p' q' folds folds' (record { target = target; borders = borders; folds = r .folds })
   mesh-walked folds here = record {
-    tidy = done .tidy;
-    within = within-then (laid .within) (done .within);
+    walked = record { laid-u32s = w; laid-f32s = p; laid-f64s = q; laid = laid; live = r .live; by-engine = walked };
+    tidy = walked .done .tidy;
+    within = within-then (laid .within) (walked .done .within);
     last-mesh = last-mesh;
     aim = aim;
     borders-held = laid .counted;

@@ -17,7 +17,13 @@ use Rattle.meaning.specs.Input.{Input, pointsIn, facesIn}
 use Rattle.meaning.specs.Start.{startMesh}
 use Rattle.meaning.specs.Outcome.{targetOf, lastMesh, foldsWalked, bordersHeld}
 use Rattle.meaning.specs.Call.{coordinateBound, listed}
+use Rattle.plainwalk.specs.declared.Walked.{Walked}
+use Rattle.plainwalk.specs.Whole.{WalkDone}
+use Rattle.heapwalk.specs.Chain.{HeapWalked}
+use Rattle.placement.specs.declared.Limit.{Limit}
 use Rattle.walking.specs.declared.Came.{Came}
+use Rattle.walking.specs.declared.Engine.{Engine}
+use Rattle.walking.specs.declared.Engine.the-variants.{Heap}
 
 -- sizes within document 01's limits, and work memory with the stated room
 pub record Working (v f : ℕ) (u : List ℕ) (p q : List Float) : Type 0 where
@@ -59,8 +65,24 @@ inputWalked points faces options =
       bound = coordinateBound;
     }
 
+-- What the walk by an engine has done: by either what the plain walk comes to, and by the heap as a chain of steps on the queue.
+pub record WalkedBy (engine : Engine) (v f target : ℕ) (limit : Limit) (bound : Float) (w : List ℕ) (p q : List Float) (w' : List ℕ) (p' q' : List Float) (r : Walked) : Type 0 where
+  pub done : WalkDone v f w p q target limit bound w' p' q' r
+  pub chained : engine ≡ Heap → HeapWalked v f target limit bound w p q w' p' q' r
+
+-- a mesh laid out in the work memory and walked from there by an engine
+pub record LaidAndWalked (engine : Engine) (i : Input) (u : List ℕ) (p q : List Float) (u' : List ℕ) (p' q' : List Float) (came : Came) : Type 0 where
+  pub laid-u32s : List ℕ
+  pub laid-f32s : List Float
+  pub laid-f64s : List Float
+  pub laid : LaidOut (pointsIn i) (facesIn i) (i .points) (i .faces) (i .options .preserve) u p q laid-u32s laid-f32s laid-f64s (came .borders)
+  pub live : ℕ
+  pub by-engine : WalkedBy engine (pointsIn i) (facesIn i) (came .target) (i .options .limit) (i .bound) laid-u32s laid-f32s laid-f64s u' p' q'
+      (record { folds = came .folds; live = live })
+
 -- an input's last mesh in the work memory, what its walk came to, and its folds listed
-pub record MeshWalked (i : Input) (u : List ℕ) (p q : List Float) (u' : List ℕ) (p' q' : List Float) (folds folds' : List ℕ) (came : Came) : Type 0 where
+pub record MeshWalked (engine : Engine) (i : Input) (u : List ℕ) (p q : List Float) (u' : List ℕ) (p' q' : List Float) (folds folds' : List ℕ) (came : Came) : Type 0 where
+  pub walked : LaidAndWalked engine i u p q u' p' q' came
   pub tidy : Tidy (pointsIn i) (facesIn i) u'
   pub within : Within (pointsIn i) (facesIn i) u p q u' p' q'
   pub last-mesh : meshOf (pointsIn i) (facesIn i) u' p' q' ≡ lastMesh i

@@ -4,9 +4,8 @@ ghost use Prim.Native.Nat.{_+_, _*_, _/_, _≤_, min};
 ghost use lib.ListN.{length};
 ghost use Rattle.memory.specs.Memory.{Room};
 ghost use Rattle.memory.specs.Entries.{foldsIn};
-ghost use Rattle.plainwalk.specs.Whole.{WalkDone};
 ghost use Rattle.meaning.specs.Call.{coordinateBound, listed};
-ghost use Rattle.walking.specs.Contracts.{Layable, Walkable, LaidOut, inputWalked, MeshWalked};
+ghost use Rattle.walking.specs.Contracts.{Layable, Walkable, LaidOut, WalkedBy, inputWalked, MeshWalked};
 use meaning::Options;
 use placement::Bounds;
 use placement::Limit;
@@ -15,7 +14,7 @@ use plainwalk::Walked;
 // No coordinate is larger: 1,048,576.
 pub const BOUND: f32 = 1048576.0;
 
-// How the mesh is walked: by every cost worked out anew, or by a queue. The two have one statement.
+// How the mesh is walked: by every cost worked out anew, or by a queue.
 pub enum Engine {
     Plain,
     Heap,
@@ -61,7 +60,7 @@ fn walk_by(
     limit: Limit,
 ) -> Walked
     requires { ⌜ Walkable v f (now w) (now p) (now q) ⌝ }
-    ensures { λ r. ⌜ WalkDone v f (now (w .entry)) (now (p .entry)) (now (q .entry)) target limit coordinateBound (now (w .exit)) (now (p .exit)) (now (q .exit)) r ⌝ }
+    ensures { λ r. ⌜ WalkedBy engine v f target limit coordinateBound (now (w .entry)) (now (p .entry)) (now (q .entry)) (now (w .exit)) (now (p .exit)) (now (q .exit)) r ⌝ }
 {
     let bounds = Bounds { limit, size: BOUND };
     match engine {
@@ -101,7 +100,7 @@ pub fn walked(
     folds: &mut [u32],
 ) -> Came
     requires { ⌜ Layable (length (now points) / 3) (length (now faces) / 3) (now points) (now faces) (now w) (now p) (now q) ⌝ }
-    ensures { λ r. ⌜ MeshWalked (inputWalked (now (points .entry)) (now (faces .entry)) options) (now (w .entry)) (now (p .entry)) (now (q .entry)) (now (w .exit)) (now (p .exit)) (now (q .exit)) (now (folds .entry)) (now (folds .exit)) r ⌝ }
+    ensures { λ r. ⌜ MeshWalked engine (inputWalked (now (points .entry)) (now (faces .entry)) options) (now (w .entry)) (now (p .entry)) (now (q .entry)) (now (w .exit)) (now (p .exit)) (now (q .exit)) (now (folds .entry)) (now (folds .exit)) r ⌝ }
 {
     let v = points.len() / 3;
     let f = faces.len() / 3;

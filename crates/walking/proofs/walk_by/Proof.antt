@@ -1,7 +1,7 @@
 -- `walking::walk_by` meets its contract: each walk is handed what it asks, and states what is asked.
 -- Assumes nothing.
 use borrow.Author.Needs.{needs}
-use Rattle.walking.proofs.WalkedLaws.{plain-room}
+use Rattle.walking.proofs.WalkedLaws.{plain-room, by-plain, by-heap}
 use Rattle.walking.proofs.walk_by.Statement.{statement}
 use Rattle.walking.proofs.walk_by.Tie as tie
 
@@ -25,7 +25,9 @@ same-length-3 : tie.Need-same-length-3
 same-length-3 c = c .before .q .given
 
 returns : tie.Need-returns
-returns c = c .before .before .before .before .before .before .plain-walk .ensures
+returns c =
+    let done = c .before .before .before .before .before .before in
+    by-plain (done .before .before .before .before .enum-told .given .1) (done .plain-walk .ensures)
 
 same-length-4 : tie.Need-same-length-4
 same-length-4 c = c .before .before .before .before .before .w2 .given
@@ -37,7 +39,9 @@ same-length-6 : tie.Need-same-length-6
 same-length-6 c = c .before .q2 .given
 
 returns-2 : tie.Need-returns-2
-returns-2 c = c .before .before .before .before .before .before .heap-walk .ensures
+returns-2 c =
+    let done = c .before .before .before .before .before .before in
+    by-heap (done .before .before .before .before .before .before .before .before .before .pre) (done .heap-walk .ensures)
 
 pub walk-by-spec : {M : Type 1} → statement M
 walk-by-spec =

@@ -43,8 +43,8 @@ list-folds-requires : tie.Need-list-folds-requires
 list-folds-requires c κs =
     let stage = c .before .before .before .before .before .before .before .before in
     let before = laid stage in
-    let done = stage .walk-by .ensures in
-    (done .tidy .room, folds-few (input (begun before)) (aim before) (before .laid-out .ensures) done)
+    let walked = stage .walk-by .ensures in
+    (walked .done .tidy .room, folds-few (input (begun before)) (aim before) (before .laid-out .ensures) walked)
 
 same-length : tie.Need-same-length
 same-length c = let again = c .before .before .before .before .before .before .before .before .before .before in again .w2 .given ∙ again .before .before .before .before .before .before .before .before .before .before .w .given
