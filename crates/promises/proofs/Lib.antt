@@ -1,0 +1,2 @@
+-- What follows from the meaning for every admitted mesh, by subject.
+pub mod Floats
