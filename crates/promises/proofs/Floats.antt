@@ -7,7 +7,7 @@ use mathlib.Core.Path.{_≡_, refl, sym, ap, _∙_}
 use mathlib.Core.Bool.{Bool, true, false, _&&_, _||_, Bool·beq, cond, true≢false}
 use lib.IntN.{ℤ}
 use lib.Dec.{T, ltb, eqb}
-use lib.Pow.{pow-add, pow-pos}
+use lib.Pow.{pow-add, pow-pos, pow-lt}
 use lib.Ieee.{Float, nan, inf, fin, Format, prec, emax, low, up, down, unlike, odd, units, round, neg, sum, add, sub, mul, div, le}
 use lib.Ieee.Fits.{down-pos, round-is}
 use lib.Ieee.Exact.{HasValue, round-exact}
@@ -27,6 +27,13 @@ pub data AtMost (k g : ℕ) : Float → Type 0 where
 pub record Has (f : Format) (k g : ℕ) : Type 0 where
   pub few : k < 2 ^ prec f
   pub fine : k * 2 ^ g < 2 ^ suc (emax f)
+
+-- by a power of two that k does not pass
+pub has-power : (f : Format) (k g p : ℕ) → k ≤ 2 ^ p → p < prec f → p + g < suc (emax f) → Has f k g
+has-power f k g p h few fine = record {
+  few = lt-of-le-of-lt h (pow-lt few);
+  fine = lt-of-le-of-lt (le-trans (mul-le-mul-right (2 ^ g) h) (le-of-eq (sym (pow-add 2 p g)))) (pow-lt fine);
+}
 
 -- what is bounded is finite
 pub most-finite : {k g : ℕ} {x : Float} → AtMost k g x → finite x ≡ true

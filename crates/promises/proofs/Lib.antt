@@ -1,2 +1,3 @@
 -- What follows from the meaning for every admitted mesh, by subject.
 pub mod Floats
+pub mod Bounded
