@@ -1,6 +1,6 @@
 -- Where a pair's point goes, it stays within the bound: the place of two points whose coordinates are finite and at most the bound in size is such a
 -- point too. The bound is a power of two that f32 has with its double. Assumes nothing.
-use Prim.Native.Nat.{ℕ, _+_, _*_, _^_, _≤_, _<_}
+use Prim.Native.Nat.{ℕ, _+_, _*_, _^_, _≤_, _<_, zero-le}
 use native.Mathlib.Nat.{mul-one, one-mul, mul-comm, mul-assoc, mul-left-comm, mul-pos, le-of-eq, le-of-lt, le-trans, eq-or-lt-of-le}
 use mathlib.Core.Logic.{_⊎_, inl, inr, ⊎-elim}
 use native.Mathlib.Omega.{arith}
@@ -115,6 +115,11 @@ pub record Within (k g : ℕ) (p : Point) : Type 0 where
   pub x-most : AtMost k g (p .x)
   pub y-most : AtMost k g (p .y)
   pub z-most : AtMost k g (p .z)
+
+-- +0 is within any bound
+pub nought-most : {k g : ℕ} → AtMost k g nought
+unfolding ofBits
+nought-most = most zero-le
 
 -- by the tests, and back
 pub small-within : (b : ℕ) (p : Point) → smallPoint (power b) p ≡ true → Within 1 b p

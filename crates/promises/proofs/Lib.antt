@@ -1,3 +1,5 @@
 -- What follows from the meaning for every admitted mesh, by subject.
 pub mod Floats
 pub mod Bounded
+pub mod FiniteChecks
+pub mod Finite
