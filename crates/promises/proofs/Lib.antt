@@ -1,5 +1,6 @@
 -- What follows from the meaning for every admitted mesh, by subject.
 pub mod Floats
+pub mod FloatsRoot
 pub mod Bounded
 pub mod FiniteChecks
 pub mod Finite
