@@ -2,5 +2,6 @@
 pub mod Floats
 pub mod FloatsRoot
 pub mod Bounded
+pub mod FloatsSquares
 pub mod FiniteChecks
 pub mod Finite
