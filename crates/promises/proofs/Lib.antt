@@ -3,5 +3,6 @@ pub mod Floats
 pub mod FloatsRoot
 pub mod Bounded
 pub mod FloatsSquares
+pub mod ErrorsPlanes
 pub mod FiniteChecks
 pub mod Finite
