@@ -101,3 +101,40 @@ unit-within {p} p-most known =
       y-most = over-root (p-most .y-most) (dot-y {k = 8} {g = 40} has-norm p-most) s-most s-plus s-fits (and-elim-right (finite (div binary32 (p .x) (norm p))) _ xy);
       z-most = over-root (p-most .z-most) (dot-z {k = 8} {g = 40} has-norm p-most) s-most s-plus s-fits (and-elim-right (finite (div binary32 (p .x) (norm p)) && finite (div binary32 (p .y) (norm p))) _ known);
     }
+
+-- ---- planes
+
+-- every part of a plane is at most k * 2^g in size
+pub record PlaneWithin (k g : ℕ) (p : Plane) : Type 0 where
+  pub a-most : AtMost k g (p .a)
+  pub b-most : AtMost k g (p .b)
+  pub c-most : AtMost k g (p .c)
+  pub d-most : AtMost k g (p .d)
+
+-- through a point, with a normal
+through-within : {v n : Point} → Within 1 20 v → Within 1 75 n → PlaneWithin 1 97 (through v n)
+through-within v n = record {
+  a-most = most-wider 1 97 (lit≤ tt) (n .x-most);
+  b-most = most-wider 1 97 (lit≤ tt) (n .y-most);
+  c-most = most-wider 1 97 (lit≤ tt) (n .z-most);
+  d-most =
+      most-wider 1 97 (lit≤ tt)
+      (neg-most (dot-most {j = 1} {k = 1} {g = 75} {h = 20} (has-power binary32 3 95 2 (omega arith) (omega arith) (omega arith)) n v));
+}
+
+-- 1.0
+pub one-most : AtMost 1 0 one
+unfolding ofBits
+one-most = most (lit≤ tt)
+
+-- (0,0,1,0)
+level-within : PlaneWithin 1 97 level
+level-within = record { a-most = nought-most; b-most = nought-most; c-most = most-wider 1 97 (lit≤ tt) one-most; d-most = nought-most }
+
+-- the plane of a face
+pub plane-within : {p0 p1 p2 : Point} → Within 1 20 p0 → Within 1 20 p1 → Within 1 20 p2 → PlaneWithin 1 97 (planeOf p0 p1 p2)
+unfolding planeOf unitNormal
+plane-within {p0} {p1} {p2} h0 h1 h2 =
+    by-test (allFinite (unitNormal p0 p1 p2))
+    (λ t. rw t (through-within h0 (unit-within (normal-within h0 h1 h2) t)))
+    (λ t. rw t level-within)

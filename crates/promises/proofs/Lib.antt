@@ -4,5 +4,6 @@ pub mod FloatsRoot
 pub mod Bounded
 pub mod FloatsSquares
 pub mod ErrorsPlanes
+pub mod ErrorsQuadrics
 pub mod FiniteChecks
 pub mod Finite
