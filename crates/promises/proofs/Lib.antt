@@ -7,3 +7,4 @@ pub mod ErrorsPlanes
 pub mod ErrorsQuadrics
 pub mod FiniteChecks
 pub mod Finite
+pub mod Weights
