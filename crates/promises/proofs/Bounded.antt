@@ -1,7 +1,7 @@
 -- Where a pair's point goes, it stays within the bound: the place of two points whose coordinates are finite and at most the bound in size is such a
 -- point too. The bound is a power of two that f32 has with its double. Assumes nothing.
 use Prim.Native.Nat.{ℕ, _+_, _*_, _^_, _≤_, _<_, zero-le}
-use native.Mathlib.Nat.{mul-one, one-mul, mul-comm, mul-assoc, mul-left-comm, mul-pos, le-of-eq, le-of-lt, le-trans, eq-or-lt-of-le}
+use native.Mathlib.Nat.{mul-one, one-mul, mul-comm, mul-assoc, mul-left-comm, mul-le-mul-left, mul-pos, le-of-eq, le-of-lt, le-trans, eq-or-lt-of-le}
 use mathlib.Core.Logic.{_⊎_, inl, inr, ⊎-elim}
 use native.Mathlib.Omega.{arith}
 use mathlib.Core.Path.{_≡_, refl, sym, ap, subst, _∙_}
@@ -9,7 +9,7 @@ use mathlib.Core.Bool.{Bool, true, false, not, _&&_, _||_, cond, false≢true, o
 use mathlib.Mathlib.Data.Bool.Basic.{and-elim-left, and-elim-right, and-intro, or-inl, or-inr}
 use lib.IntN.{pos, negsuc}
 use lib.Dec.{T, ltb, eqb}
-use lib.Pow.{pow-pos}
+use lib.Pow.{pow-pos, pow-mono}
 use lib.Ieee.{Float, nan, inf, fin, binary32, up, down, unlike, neg, le, add, mul, ofBits}
 use lib.Ieee.Fits.{down-pos}
 use lib.Ieee.Scale.{finite}
@@ -24,7 +24,7 @@ use Rattle.placement.specs.declared.place.Placement.{Placement}
 use Rattle.placement.specs.declared.place.Placement.the-variants.{Solved, Unsolved}
 use Rattle.placement.specs.Places.{inSize, solved, stands, tested, two, longerOf, costBelow, cheaper, fallback, pointOr, placeOf}
 use Rattle.meaning.specs.Answers.{badCoordinate}
-use Rattle.promises.proofs.Floats.{AtMost, most, Has, has-power, round-most, add-most}
+use Rattle.promises.proofs.Floats.{AtMost, most, Has, has-power, most-wider, round-most, add-most}
 
 -- ---- what is within the bound
 
@@ -115,6 +115,12 @@ pub record Within (k g : ℕ) (p : Point) : Type 0 where
   pub x-most : AtMost k g (p .x)
   pub y-most : AtMost k g (p .y)
   pub z-most : AtMost k g (p .z)
+
+-- a wider bound
+pub within-wider : {i j : ℕ} {p : Point} → i ≤ j → Within 1 i p → Within 1 j p
+within-wider {i} {j} h p =
+    let wide : 1 * 2 ^ i ≤ 1 * 2 ^ j = mul-le-mul-left 1 (pow-mono h) in
+    record { x-most = most-wider 1 j wide (p .x-most); y-most = most-wider 1 j wide (p .y-most); z-most = most-wider 1 j wide (p .z-most) }
 
 -- +0 is within any bound
 pub nought-most : {k g : ℕ} → AtMost k g nought

@@ -102,17 +102,19 @@ module _ (limit : Limit) {bound : Float} (b : ℕ) (fits : b ≤ 104) (is-power 
 
 -- ---- the start
 
--- the start of an input that is not refused
-start-small : (i : Input) → every (small (i .bound)) (i .points) ≡ true → SmallMesh (i .bound) (startOf i .mesh)
-unfolding startOf started startMesh
-start-small i all =
-    every-below (smallVertex (i .bound)) _ (pointsIn i)
-    (λ x inside.
+-- a point of an input whose coordinates 7 lets pass
+pub point-small : (i : Input) → every (small (i .bound)) (i .points) ≡ true → (x : ℕ) → x < pointsIn i → smallPoint (i .bound) (pointAt (i .points) x) ≡ true
+point-small i all x inside =
     rw (
       every-at (small (i .bound)) nan (i .points) all (3 * x) (omega arith),
       every-at (small (i .bound)) nan (i .points) all (3 * x + 1) (omega arith),
       every-at (small (i .bound)) nan (i .points) all (3 * x + 2) (omega arith),
-    ))
+    )
+
+-- the start of such an input
+start-small : (i : Input) → every (small (i .bound)) (i .points) ≡ true → SmallMesh (i .bound) (startOf i .mesh)
+unfolding startOf started startMesh
+start-small i all = every-below (smallVertex (i .bound)) _ (pointsIn i) (point-small i all)
 
 -- ---- from an input, whose bound is a power of two
 

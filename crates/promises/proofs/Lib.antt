@@ -8,3 +8,4 @@ pub mod ErrorsQuadrics
 pub mod FiniteChecks
 pub mod Finite
 pub mod Weights
+pub mod WeightsStart
