@@ -9,3 +9,4 @@ pub mod FiniteChecks
 pub mod Finite
 pub mod Weights
 pub mod WeightsStart
+pub mod Errors
