@@ -1,19 +1,19 @@
 -- Where a pair's point goes, it stays within the bound: the place of two points whose coordinates are finite and at most the bound in size is such a
--- point too. The bound is a power of two that f32 has with its double. Assumes nothing.
+-- point too. The bound is a power of two, and f32 has its double. Assumes nothing.
 use Prim.Native.Nat.{ℕ, _+_, _*_, _^_, _≤_, _<_, zero-le}
 use native.Mathlib.Nat.{mul-one, one-mul, mul-comm, mul-assoc, mul-left-comm, mul-le-mul-left, mul-pos, le-of-eq, le-of-lt, le-trans, eq-or-lt-of-le}
 use mathlib.Core.Logic.{_⊎_, inl, inr, ⊎-elim}
 use native.Mathlib.Omega.{arith}
-use mathlib.Core.Path.{_≡_, refl, sym, ap, subst, _∙_}
-use mathlib.Core.Bool.{Bool, true, false, not, _&&_, _||_, cond, false≢true, or-true}
-use mathlib.Mathlib.Data.Bool.Basic.{and-elim-left, and-elim-right, and-intro, or-inl, or-inr}
+use mathlib.Core.Path.{_≡_, refl, sym, _∙_}
+use mathlib.Core.Bool.{Bool, true, false, not, _&&_, _||_, false≢true}
+use mathlib.Mathlib.Data.Bool.Basic.{and-elim-left, and-elim-right, or-inl, or-inr}
 use lib.IntN.{pos, negsuc}
-use lib.Dec.{T, ltb, eqb}
+use lib.Dec.{ltb, eqb}
 use lib.Pow.{pow-pos, pow-mono}
 use lib.Ieee.{Float, nan, inf, fin, binary32, up, down, unlike, neg, le, add, mul, ofBits}
 use lib.Ieee.Fits.{down-pos}
 use lib.Ieee.Scale.{finite}
-use borrow.Author.Tests.{ltb-true, eqb-true, lt-ltb, eq-eqb, not-true, not-false}
+use borrow.Author.Tests.{ltb-true, eqb-true, lt-ltb, eq-eqb}
 use Rattle.lists.proofs.TestLaws.{by-test, either-of, all-of-six}
 use Rattle.geometry.specs.Constants.{half, nought}
 use Rattle.geometry.specs.declared.Point.{Point}
@@ -77,6 +77,13 @@ small-most b (fin s m e) h = go s (kept (le (fin s m e) (power b) && le (neg (po
     go true p = most {e = e} (rw mul-one at (at-most (m * up e * 1) (1 * 2 ^ b * down e) _ (inr refl) (and-elim-right (le (fin true m e) (power b)) _ p)))
     go false p = most {e = e} (rw mul-one at (at-most (m * up e * 1) (1 * 2 ^ b * down e) _ (inl refl) (and-elim-left _ (le (neg (power b)) (fin false m e)) p)))
 
+-- what passes, in words
+pub small-says : (bound x : Float) → small bound x ≡ true → (finite x ≡ true) × (le x bound ≡ true) × (le (neg bound) x ≡ true)
+small-says bound x h =
+    let all = kept (finite x && le x bound && le (neg bound) x) h in
+    let two = and-elim-left (finite x && le x bound) (le (neg bound) x) all in
+    (and-elim-left (finite x) (le x bound) two, and-elim-right (finite x) (le x bound) two, and-elim-right (finite x && le x bound) (le (neg bound) x) all)
+
 -- what is bounded passes
 pub most-small : (b : ℕ) {x : Float} → AtMost 1 b x → small (power b) x ≡ true
 unfolding le neg
@@ -99,10 +106,10 @@ halved : {b : ℕ} {x : Float} → Has binary32 1 b → AtMost 2 b x → AtMost 
 unfolding mul
 halved {b} has (most {s} {m} {e} h) =
     let parts : 2 * 2 ^ b * down e ≡ 1 * 2 ^ b * (down e * 2) = simp (one-mul, mul-assoc, mul-comm, mul-left-comm) in
-    round-most binary32 (unlike s false) (m * up e * (1 * 1)) (down e * 2) 1 b (mul-pos (down-pos e) (omega arith)) has (rw mul-one (le-trans h (le-of-eq parts)))
+    round-most binary32 (unlike s false) (m * up e * (1 * 1)) (down e * 2) 1 b (mul-pos (down-pos e) (omega arith)) has (le-trans (le-of-eq (mul-one (m * up e))) (le-trans h (le-of-eq parts)))
 
 -- `(x+y)*0.5`: the sum is at most twice the bound
-middle-most : (b : ℕ) {x y : Float} → b ≤ 104 → AtMost 1 b x → AtMost 1 b y → AtMost 1 b (mul binary32 (add binary32 x y) half)
+middle-most : (b : ℕ) {x y : Float} → b ≤ 126 → AtMost 1 b x → AtMost 1 b y → AtMost 1 b (mul binary32 (add binary32 x y) half)
 middle-most b fits p q =
     rw half-is
     (halved (has-power binary32 1 b 0 (omega arith) (omega arith) (omega arith))
@@ -140,7 +147,7 @@ small-within b p h =
 pub within-small : (b : ℕ) (p : Point) → Within 1 b p → smallPoint (power b) p ≡ true
 within-small b p h = rw (most-small b (h .x-most), most-small b (h .y-most), most-small b (h .z-most))
 
-module _ (b : ℕ) (fits : b ≤ 104) where
+module _ (b : ℕ) (fits : b ≤ 126) where
   -- the size rule, of a part that is finite
   in-size : (x : Float) → finite x ≡ true → inSize (power b) x ≡ true → AtMost 1 b x
   in-size x known h =
@@ -152,8 +159,8 @@ module _ (b : ℕ) (fits : b ≤ 104) where
   unfolding stands allFinite
   stands-within length keep p h =
       let all =
-          all-of-six (finite (p .x)) (finite (p .y)) (finite (p .z)) (inSize (power b) (p .x)) (inSize (power b) (p .y)) (inSize (power b) (p .z))
-          (and-elim-left _ (le (norm (difference p keep)) (mul binary32 two (longerOf length))) h) in
+      all-of-six (finite (p .x)) (finite (p .y)) (finite (p .z)) (inSize (power b) (p .x)) (inSize (power b) (p .y)) (inSize (power b) (p .z))
+      (and-elim-left _ (le (norm (difference p keep)) (mul binary32 two (longerOf length))) h) in
       record { x-most = in-size (p .x) (all .0) (all .3); y-most = in-size (p .y) (all .1) (all .4); z-most = in-size (p .z) (all .2) (all .5) }
 
   -- a placement that was tested, or another point where it has none

@@ -1,14 +1,14 @@
 -- The plane of a face whose points are at most 2^20 in size has bounded parts, and so has a pair's length. A part of the normal over the norm is at most
 -- 2^75 in size wherever it is finite: where the part is above 1, the norm is at least 1, and else the norm is at least 2^-75, or zero. Assumes nothing.
-use Prim.Native.Nat.{ℕ, _+_, _*_, _^_, _≤_, _<_}
+use Prim.Native.Nat.{ℕ}
 use native.Mathlib.Nat.{eq-zero-or-pos}
 use native.Mathlib.Omega.{arith}
-use mathlib.Core.Path.{_≡_, refl, sym, ap, _∙_}
-use mathlib.Core.Logic.{_⊎_, inl, inr, ⊎-elim}
+use mathlib.Core.Path.{_≡_}
+use mathlib.Core.Logic.{⊎-elim}
 use mathlib.Core.Bool.{Bool, true, false, _&&_, cond, false≢true}
 use mathlib.Mathlib.Data.Bool.Basic.{and-elim-left, and-elim-right}
 use lib.Dec.{T, eqb, lit≤}
-use lib.Ieee.{Float, nan, inf, fin, Format, binary32, binary64, unlike, neg, add, sub, mul, div, fits, ofBits, toBits}
+use lib.Ieee.{Float, nan, inf, binary32, unlike, sub, mul, div, fits, ofBits, toBits}
 use lib.Ieee.Fits.{add-fits}
 use lib.Ieee.Scale.{finite}
 use Rattle.lists.proofs.TestLaws.{by-test}
@@ -16,8 +16,8 @@ use Rattle.bits.specs.Root.{root}
 use Rattle.bits.proofs.NotBelowZero.{NotBelow}
 use Rattle.geometry.specs.declared.Point.{Point}
 use Rattle.geometry.specs.declared.Plane.{Plane}
-use Rattle.geometry.specs.Constants.{nought, one}
-use Rattle.geometry.specs.Points.{difference, cross, dot, over, norm, normal, allFinite}
+use Rattle.geometry.specs.Constants.{one}
+use Rattle.geometry.specs.Points.{difference, over, norm, normal, allFinite}
 use Rattle.geometry.specs.Planes.{unitNormal, through, level, planeOf}
 use Rattle.promises.proofs.Floats.{AtMost, most, Has, has-power, AtLeast, most-wider, neg-most, sub-most, mul-most, div-most}
 use Rattle.promises.proofs.FloatsRoot.{root-finite, root-one, root-some, root-none}

@@ -1,11 +1,11 @@
 -- Quadrics by a bound on their parts: the quadric of a bounded plane is bounded, bounds add up in a sum, and the error of a bounded quadric at a bounded
 -- point is finite. Assumes nothing.
-use Prim.Native.Nat.{ℕ, _+_, _*_, _^_, _≤_, _<_}
+use Prim.Native.Nat.{ℕ, _+_, _*_, _^_, _≤_}
 use native.Mathlib.Omega.{arith}
 use mathlib.Core.Path.{_≡_}
 use mathlib.Core.Bool.{true}
 use lib.Dec.{lit≤}
-use lib.Ieee.{Float, Format, binary64, add, mul}
+use lib.Ieee.{Float, binary64}
 use lib.Ieee.Scale.{finite}
 use Rattle.geometry.specs.declared.Point.{Point}
 use Rattle.geometry.specs.declared.Plane.{Plane}

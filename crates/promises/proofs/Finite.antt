@@ -1,27 +1,21 @@
 -- Every coordinate of every point is finite and at most the bound in size: at the start, after each step of the walk, and in what comes out, removed
--- points included. The bound is a power of two up to 2^104; document 01's is 2^20 (`document-bound`). Assumes nothing.
-use Prim.Native.Nat.{ℕ, zero, suc, _+_, _*_, _/_, _≤_, _<_}
+-- points included. The bound is a power of two up to 2^126; document 01's is 2^20 (`document-bound`). Assumes nothing.
+use Prim.Native.Nat.{ℕ, zero, suc, _+_, _*_, _≤_, _<_}
 use native.Mathlib.Omega.{arith}
-use mathlib.Core.Path.{_≡_, refl, sym, ap, _∙_}
+use mathlib.Core.Path.{_≡_, refl}
 use mathlib.Core.List.{List, [], _∷_}
-use mathlib.Core.Bool.{Bool, true, false, _&&_, cond}
+use mathlib.Core.Bool.{Bool, true, _&&_}
 use mathlib.Mathlib.Data.Bool.Basic.{and-elim-left, and-elim-right}
-use lib.IntN.{pos}
-use lib.Dec.{ltb, eqb}
-use lib.ListN.{length, getD, set, length-set}
-use lib.Seq.{getD-set-same, getD-set-other}
-use lib.Ieee.{Float, nan, fin, ofBits}
-use borrow.Author.Tests.{ltb-true, ltb-false, eqb-true, eqb-false}
-use Rattle.lists.specs.Lists.{every, below}
+use lib.ListN.{getD, set}
+use lib.Ieee.{Float, nan, ofBits}
+use Rattle.lists.specs.Lists.{every}
 use Rattle.lists.proofs.TestLaws.{by-test}
 use Rattle.lists.proofs.EveryLaws.{every-at, every-head, every-tail, every-cons}
 use Rattle.lists.proofs.BelowLaws.{every-below}
-use Rattle.geometry.specs.declared.Point.{Point}
-use Rattle.geometry.specs.Constants.{nought}
 use Rattle.placement.specs.declared.pair.Vertex.{Vertex}
 use Rattle.placement.specs.declared.Limit.{Limit}
 use Rattle.placement.specs.Pairs.{pairPlace}
-use Rattle.walk.specs.Faces.{Rules, Mesh, dataOf, mergedOf}
+use Rattle.walk.specs.Faces.{Mesh, dataOf, mergedOf}
 use Rattle.walk.specs.Fold.{foldedMesh}
 use Rattle.walk.specs.Walk.{walk, State, StepAnswer, folded, closed, ended, answer, after, plainMachine, started}
 use Rattle.walk.specs.Output.{used}
@@ -30,13 +24,13 @@ use Rattle.meaning.specs.declared.Verdict.{Verdict}
 use Rattle.meaning.specs.declared.Verdict.the-variants.{Refused, Copied, Admitted}
 use Rattle.meaning.specs.Arithmetic.{mergedVertex, rulesOf}
 use Rattle.meaning.specs.Start.{startMesh}
-use Rattle.meaning.specs.Input.{Input, pointsIn, facesIn, pointAt}
+use Rattle.meaning.specs.Input.{Input, pointsIn, pointAt}
 use Rattle.meaning.specs.Answers.{verdictOf}
-use Rattle.meaning.specs.Call.{coordinateBound}
+use Rattle.meaning.specs.declared.Options.{Options}
+use Rattle.meaning.specs.Call.{coordinateBound, Lent, inputOf}
 use Rattle.meaning.specs.Outcome.{rulesIn, startOf, targetOf, lastMesh, partsIn, outcome, outcomeBy, stuck}
-use Rattle.promises.proofs.Floats.{AtMost, most}
-use Rattle.promises.proofs.Bounded.{small, smallPoint, power, most-small, small-within, within-small, nought-most, place-within}
-use Rattle.promises.proofs.FiniteChecks.{refused, Passed, passed}
+use Rattle.promises.proofs.Bounded.{small, smallPoint, power, small-within, within-small, nought-most, place-within}
+use Rattle.promises.proofs.FiniteChecks.{passed}
 
 -- what 7 lets pass, of a point with all that it carries
 abbrev pub smallVertex : Float → Vertex → Bool
@@ -45,6 +39,10 @@ smallVertex bound v = smallPoint bound (v .point)
 -- every point of a mesh
 abbrev pub SmallMesh : Float → Mesh Vertex → Type 0
 SmallMesh bound m = every (smallVertex bound) (m .points) ≡ true
+
+-- the state after n steps of the walk of an input
+abbrev pub stateAt : Input → ℕ → State Vertex
+stateAt i n = walk (plainMachine (rulesIn i) (targetOf i)) n (startOf i)
 
 -- document 01's bound is a power of two
 pub document-bound : coordinateBound ≡ power 20
@@ -68,7 +66,7 @@ every-set test (x ∷ xs) (suc k) a all one = every-cons test x (set xs k a) (ev
 -- ---- the walk
 
 -- the rules with a bound that is a power of two
-module _ (limit : Limit) {bound : Float} (b : ℕ) (fits : b ≤ 104) (is-power : bound ≡ power b) where
+module _ (limit : Limit) {bound : Float} (b : ℕ) (fits : b ≤ 126) (is-power : bound ≡ power b) where
   -- what no number names
   blank-small : smallVertex bound (rulesOf limit bound .blank) ≡ true
   unfolding rulesOf
@@ -118,9 +116,9 @@ start-small i all = every-below (smallVertex (i .bound)) _ (pointsIn i) (point-s
 
 -- ---- from an input, whose bound is a power of two
 
-module _ (i : Input) (b : ℕ) (fits : b ≤ 104) (is-power : i .bound ≡ power b) where
+module _ (i : Input) (b : ℕ) (fits : b ≤ 126) (is-power : i .bound ≡ power b) where
   -- after any number of steps every coordinate of every point is finite and at most the bound in size
-  pub walk-finite : verdictOf i ≡ Admitted → (n : ℕ) → SmallMesh (i .bound) (walk (plainMachine (rulesIn i) (targetOf i)) n (startOf i) .mesh)
+  pub walk-finite : verdictOf i ≡ Admitted → (n : ℕ) → SmallMesh (i .bound) (stateAt i n .mesh)
   walk-finite admitted n =
       walk-small (i .options .limit) b fits is-power (targetOf i) n (startOf i) (start-small i (passed i Admitted refl admitted .coordinates))
 
@@ -156,3 +154,8 @@ module _ (i : Input) (b : ℕ) (fits : b ≤ 104) (is-power : i .bound ≡ power
           by-test (stuck i)
           (λ t. rw t)
           (λ t. rw t (parts-small (lastMesh i) (last-finite e) (used [] (lastMesh i .faces))))
+
+-- with document 01's bound, of any call
+pub called-finite :
+    (points : List Float) (faces : List ℕ) (options : Options) (b : Lent) → every (small coordinateBound) (outcome (inputOf points faces options b) .points) ≡ true
+called-finite points faces options b = outcome-finite (inputOf points faces options b) 20 (omega arith) document-bound

@@ -1,17 +1,16 @@
 -- What the checks before the walk say of an input that is not refused: how large it is, that 7 lets every coordinate pass, and, where it is walked, that
 -- every face has three distinct points that there are. Assumes nothing.
-use Prim.Native.Nat.{ℕ, suc, _/_, _≤_}
-use mathlib.Core.Path.{_≡_, refl, sym, ap, _∙_}
+use Prim.Native.Nat.{ℕ, suc, _≤_}
+use mathlib.Core.Path.{_≡_, refl, ap, _∙_}
 use mathlib.Core.List.{List, [], _∷_}
 use mathlib.Core.Bool.{Bool, true, false, not, _&&_, _||_, cond, true≢false}
 use native.Mathlib.Omega.{arith}
 use lib.Dec.{ltb, eqb}
 use lib.ListN.{length}
-use lib.Ieee.{Float, eq}
-use borrow.Author.Tests.{ltb-false, not-false}
+use lib.Ieee.{eq}
+use borrow.Author.Tests.{ltb-false}
 use Rattle.lists.specs.Lists.{every, some}
 use Rattle.lists.proofs.TestLaws.{neither-of}
-use Rattle.lists.proofs.EveryLaws.{every-cons}
 use Rattle.bits.specs.Cut.{zeroFloat}
 use Rattle.walk.specs.declared.Face.{Face}
 use Rattle.walk.specs.Faces.{proper, facesOf}

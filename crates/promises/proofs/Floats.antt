@@ -1,7 +1,7 @@
 -- Floats by a bound on their size: sums, differences, products and quotients of bounded floats are bounded, in either format, whatever is rounded on
 -- the way. A bound is a number that the format has, and rounding never passes such a number. Assumes nothing.
 use Prim.Native.Nat.{ℕ, zero, suc, _+_, _-_, _*_, _^_, _≤_, _<_}
-use native.Mathlib.Nat.{le-trans, le-of-eq, sub-le, add-le-add, mul-one, mul-comm, mul-assoc, mul-left-comm, mul-right-comm, mul-mul-mul-comm, add-mul, mul-le-mul, mul-le-mul-left, mul-le-mul-right, le-of-mul-le-mul-right, mul-pos, mul-lt-mul-of-pos-right, lt-of-lt-of-le, lt-of-le-of-lt}
+use native.Mathlib.Nat.{le-trans, le-of-eq, sub-le, add-le-add, mul-one, mul-comm, mul-assoc, mul-left-comm, mul-right-comm, mul-mul-mul-comm, add-mul, mul-le-mul, mul-le-mul-right, le-of-mul-le-mul-right, mul-pos, mul-lt-mul-of-pos-right, lt-of-lt-of-le, lt-of-le-of-lt}
 use native.Mathlib.Omega.{arith}
 use mathlib.Core.Path.{_≡_, refl, sym, ap, _∙_}
 use mathlib.Core.Bool.{Bool, true, false, _&&_, _||_, Bool·beq, cond, true≢false}
@@ -136,7 +136,7 @@ unfolding add
 add-most f {j} {k} {g} has (most {s} {m} {e} h) (most {s = t} {m = n} {e = d} l) =
     let left : m * up e * down d ≤ j * 2 ^ g * (down e * down d) = le-trans (mul-le-mul-right (down d) h) (le-of-eq (mul-assoc (j * 2 ^ g) (down e) (down d))) in
     let right : n * up d * down e ≤ k * 2 ^ g * (down e * down d) =
-        le-trans (mul-le-mul-right (down e) l) (le-of-eq (mul-assoc (k * 2 ^ g) (down d) (down e) ∙ ap (λ (z : ℕ). k * 2 ^ g * z) (mul-comm (down d) (down e)))) in
+    le-trans (mul-le-mul-right (down e) l) (le-of-eq (mul-assoc (k * 2 ^ g) (down d) (down e) ∙ ap (λ (z : ℕ). k * 2 ^ g * z) (mul-comm (down d) (down e)))) in
     sum-most f s (m * up e * down d) t (n * up d * down e) (down e * down d) (j + k) g (mul-pos (down-pos e) (down-pos d)) has
     (le-trans (add-le-add left right) (le-of-eq (sym (ap (λ (z : ℕ). z * (down e * down d)) (add-mul j k (2 ^ g)) ∙ add-mul (j * 2 ^ g) (k * 2 ^ g) (down e * down d)))))
 

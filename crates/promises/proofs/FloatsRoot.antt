@@ -1,13 +1,13 @@
 -- The f32 root of a bounded float that is not negative: it rises with the float's pattern, it is finite, and it is at least what the root of a smaller
 -- pattern is. Assumes nothing.
-use Prim.Native.Nat.{ℕ, zero, suc, _+_, _-_, _*_, _/_, _^_, _≤_, _<_}
-use native.Mathlib.Nat.{le-refl, le-trans, le-of-eq, le-of-lt, lt-of-lt-of-le, lt-of-le-of-lt, lt-trans, lt-irrefl, eq-or-lt-of-le, lt-of-not-le, not-le-of-lt, mul-one, mul-comm, mul-assoc, mul-left-comm, mul-right-comm, mul-le-mul, mul-le-mul-left, mul-le-mul-right, le-of-mul-le-mul-right, mul-lt-mul-of-pos-right, div-lt-iff-lt-mul}
+use Prim.Native.Nat.{ℕ, _+_, _-_, _*_, _/_, _^_, _≤_, _<_}
+use native.Mathlib.Nat.{le-trans, le-of-eq, le-of-lt, lt-of-lt-of-le, lt-of-le-of-lt, lt-trans, lt-irrefl, eq-or-lt-of-le, mul-one, mul-comm, mul-right-comm, mul-le-mul, mul-le-mul-left, mul-le-mul-right, le-of-mul-le-mul-right, mul-lt-mul-of-pos-right, div-lt-iff-lt-mul}
 use native.Mathlib.Omega.{arith}
 use mathlib.Core.Path.{_≡_, refl, sym, ap, subst, _∙_}
-use mathlib.Core.Logic.{_⊎_, inl, inr, ⊎-elim}
-use mathlib.Core.Bool.{Bool, true, false, cond, true≢false}
+use mathlib.Core.Logic.{⊎-elim}
+use mathlib.Core.Bool.{true, false, true≢false}
 use lib.Dec.{T, lit≤}
-use lib.Pow.{pow-add, pow-pos, pow-mono}
+use lib.Pow.{pow-add, pow-pos}
 use lib.Ieee.{Float, nan, inf, fin, binary32, up, down, size, fits, ofBits, toBits}
 use lib.Ieee.Digits.{size-le}
 use lib.Ieee.Fits.{down-pos, kept-lt}
@@ -18,7 +18,7 @@ use Rattle.bits.specs.Root.{steps, halfway, fourfold, finiteRoot, rootBits, roo
 use Rattle.bits.proofs.RootSteps.{lt-or-le, steps-rise, halfway-rise}
 use Rattle.bits.proofs.RootLaws.{root-meets, root-of-zero, rootBits-finite}
 use Rattle.bits.proofs.RootValues.{steps-value}
-use Rattle.bits.proofs.NotBelowZero.{NotBelow, number, infinite}
+use Rattle.bits.proofs.NotBelowZero.{NotBelow, number}
 use Rattle.promises.proofs.Floats.{AtMost, most, Has, AtLeast, least}
 
 -- ---- the root rises with the pattern

@@ -1,8 +1,8 @@
 -- Sums of squares: they are not negative, they are bounded, and where a part is above 1 in size the sum is at least 1. Assumes nothing.
 use Prim.Native.Nat.{ℕ, _+_, _*_, _^_, _≤_, _<_}
-use native.Mathlib.Nat.{le-trans, le-of-eq, le-of-lt, lt-of-le-of-lt, mul-one, one-mul, mul-comm, mul-right-comm, mul-le-mul, mul-le-mul-right, le-of-mul-le-mul-right, mul-pos, le-add-right, le-add-left}
+use native.Mathlib.Nat.{le-trans, le-of-eq, le-of-lt, lt-of-le-of-lt, mul-one, one-mul, mul-comm, mul-le-mul, mul-le-mul-right, le-of-mul-le-mul-right, mul-pos, le-add-right, le-add-left}
 use native.Mathlib.Omega.{arith}
-use mathlib.Core.Path.{_≡_, refl, sym, ap, _∙_}
+use mathlib.Core.Path.{_≡_, sym, ap, _∙_}
 use mathlib.Core.Bool.{Bool, true, false, true≢false}
 use mathlib.Core.Logic.{_⊎_, inl, inr, ⊎-elim}
 use lib.IntN.{ℤ}
@@ -14,7 +14,7 @@ use lib.Ieee.Exact.{HasValue}
 use lib.Ieee.Order.{round-mono}
 use lib.Ieee.Back.{round-whole}
 use Rattle.bits.proofs.RootSteps.{lt-or-le}
-use Rattle.bits.proofs.NotBelowZero.{NotBelow, number, infinite, add-not-below}
+use Rattle.bits.proofs.NotBelowZero.{NotBelow, number, add-not-below}
 use Rattle.geometry.specs.declared.Point.{Point}
 use Rattle.geometry.specs.Points.{dot}
 use Rattle.promises.proofs.Floats.{AtMost, most, Has, AtLeast, least, le-tests, round-plus, add-most, mul-most}

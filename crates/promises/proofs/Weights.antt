@@ -1,30 +1,29 @@
 -- Each point has a weight, a whole number, and its quadric is bounded by it: a fold adds remove's weight to keep's and leaves remove none, so the sum of
 -- the weights never grows. It holds of the points that some live face holds; no live face holds a removed point. Assumes nothing.
-use Prim.Native.Nat.{ℕ, _+_, _*_, _^_, _≤_, _<_}
-use native.Mathlib.Nat.{le-trans, le-of-eq, lt-of-lt-of-le}
+use Prim.Native.Nat.{ℕ, _+_, _^_, _≤_, _<_}
+use native.Mathlib.Nat.{le-trans, le-of-eq}
 use native.Mathlib.Omega.{arith}
-use mathlib.Core.Path.{_≡_, refl, sym, ap, subst, _∙_}
+use mathlib.Core.Path.{_≡_, refl, sym, subst, _∙_}
 use mathlib.Core.Logic.{_≢_}
 use mathlib.Core.List.{List, map}
-use mathlib.Core.Bool.{Bool, true, false, not, _&&_, cond}
+use mathlib.Core.Bool.{Bool, true, false, not, cond}
 use mathlib.Mathlib.Data.Bool.Basic.{and-elim-left, and-elim-right}
 use lib.Dec.{eqb}
 use lib.ListN.{length, getD, set, length-set}
 use lib.Seq.{getD-set-same, getD-set-other}
 use lib.Ieee.{Float, binary64}
 use borrow.Author.Tests.{eqb-true, eqb-false, eq-eqb, ne-eqb, not-true}
-use Rattle.lists.specs.Lists.{sum, count, those, every, below}
+use Rattle.lists.specs.Lists.{sum, count, those, below}
 use Rattle.lists.proofs.TestLaws.{by-test, clash, flag-true}
 use Rattle.lists.proofs.SumLaws.{sum-map, sum-same, sum-mono, witness}
 use Rattle.lists.proofs.EveryLaws.{count-mono, count-those-le}
 use Rattle.lists.proofs.BelowLaws.{sum-changed, sum-single}
-use Rattle.geometry.specs.declared.Quadric.{Quadric}
 use Rattle.placement.specs.declared.Limit.{Limit}
 use Rattle.placement.specs.declared.pair.Vertex.{Vertex}
 use Rattle.placement.specs.Pairs.{pairQuadric}
 use Rattle.walk.specs.declared.Face.{Face}
 use Rattle.walk.specs.declared.Pair.{Pair}
-use Rattle.walk.specs.Faces.{holds, both, shared, renamedFace, Rules, Mesh, dataOf, mergedOf}
+use Rattle.walk.specs.Faces.{holds, both, shared, renamedFace, Mesh, dataOf, mergedOf}
 use Rattle.walk.specs.Fold.{foldedFaces, foldedMesh}
 use Rattle.walk.specs.Walk.{walk, State, StepAnswer, folded, closed, ended, answer, after, plainMachine}
 use Rattle.walk.specs.Sound.{Sound}
@@ -34,7 +33,7 @@ use Rattle.walk.proofs.SoundLaws.{isOpen, open-differ, open-shared, open-below}
 use Rattle.walk.proofs.MachineLaws.{walk-keeps}
 use Rattle.walk.proofs.StepLaws.{Told, answer-told, step-sound}
 use Rattle.meaning.specs.Arithmetic.{mergedVertex, rulesOf}
-use Rattle.promises.proofs.Floats.{Has, has-power}
+use Rattle.promises.proofs.Floats.{has-power}
 use Rattle.promises.proofs.ErrorsQuadrics.{QuadricWithin, sum-within}
 
 -- ---- points that live faces hold
@@ -62,8 +61,8 @@ unfolding foldedFaces
 folded-held-before faces p x x-k x-r h =
     let left = those (λ f. not (both (p .keep) (p .remove) f)) faces in
     let same : count (holds x) (map (renamedFace (p .keep) (p .remove)) left) ≡ count (holds x) left =
-        sum-map (λ f. cond (holds x f) 1 0) (renamedFace (p .keep) (p .remove)) left
-        ∙ sum-same (λ f. cond (holds x (renamedFace (p .keep) (p .remove) f)) 1 0) (λ f. cond (holds x f) 1 0) (λ f. rw (holds-other (p .keep) (p .remove) x x-k x-r f)) left in
+    sum-map (λ f. cond (holds x f) 1 0) (renamedFace (p .keep) (p .remove)) left
+    ∙ sum-same (λ f. cond (holds x (renamedFace (p .keep) (p .remove) f)) 1 0) (λ f. cond (holds x f) 1 0) (λ f. rw (holds-other (p .keep) (p .remove) x x-k x-r f)) left in
     omega (arith, count-those-le (holds x) (λ f. not (both (p .keep) (p .remove) f)) faces)
 
 -- ---- the weights after a fold

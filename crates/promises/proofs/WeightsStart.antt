@@ -1,14 +1,14 @@
 -- At the start a point's weight is the number of faces that hold it: its quadric has one bounded plane's for each, and three points a face make the sum.
 -- The start is sound. Assumes nothing.
-use Prim.Native.Nat.{ℕ, _+_, _*_, _/_, _^_, _≤_, _<_}
+use Prim.Native.Nat.{ℕ, _+_, _*_, _^_, _≤_, _<_}
 use native.Mathlib.Nat.{le-trans, le-of-eq, add-assoc, add-zero, zero-add}
 use native.Mathlib.Omega.{arith}
-use mathlib.Core.Path.{_≡_, refl, sym, ap, subst, _∙_}
-use mathlib.Core.List.{List, [], _∷_, map}
+use mathlib.Core.Path.{_≡_, refl, subst}
+use mathlib.Core.List.{List, [], _∷_}
 use mathlib.Core.Bool.{Bool, true, false, _||_, cond}
-use lib.Dec.{ltb, eqb, lit≤}
-use lib.ListN.{length, getD}
-use lib.Ieee.{Float, nan, binary64}
+use lib.Dec.{ltb, eqb}
+use lib.ListN.{length}
+use lib.Ieee.{Float, binary64}
 use Rattle.lists.specs.Lists.{sum, count, every, below}
 use Rattle.lists.proofs.TestLaws.{by-test, flag-le}
 use Rattle.lists.proofs.SumLaws.{sum-add, sum-mono, sum-swap, sum-times}
@@ -16,26 +16,24 @@ use Rattle.lists.proofs.EveryLaws.{every-head, every-tail, count-most}
 use Rattle.lists.proofs.BelowLaws.{sum-pick, length-each, getD-each}
 use Rattle.geometry.specs.declared.Quadric.{Quadric}
 use Rattle.geometry.specs.Quadrics.{zeroQuadric}
-use Rattle.placement.specs.declared.pair.Vertex.{Vertex}
 use Rattle.walk.specs.declared.Face.{Face}
-use Rattle.walk.specs.Faces.{holds, proper, faceAt, facesOf, Mesh, dataOf}
+use Rattle.walk.specs.Faces.{holds, proper, faceAt, facesOf}
 use Rattle.walk.specs.Walk.{started}
 use Rattle.walk.specs.Sound.{Sound}
 use Rattle.walk.proofs.FaceLaws.{corners}
 use Rattle.walk.proofs.SoundLaws.{started-sound}
 use Rattle.meaning.specs.declared.Verdict.the-variants.{Admitted}
-use Rattle.meaning.specs.Arithmetic.{rulesOf}
 use Rattle.meaning.specs.Input.{Input, pointsIn, facesIn, pointAt}
 use Rattle.meaning.specs.Start.{faceQuadric, gathered, startVertex, startMesh}
 use Rattle.meaning.specs.Answers.{verdictOf}
 use Rattle.meaning.specs.Outcome.{rulesIn, startOf}
 use Rattle.promises.proofs.Floats.{has-power}
 use Rattle.promises.proofs.Bounded.{Within, smallPoint, power, small-within, within-wider}
-use Rattle.promises.proofs.FiniteChecks.{Passed, passed, admitted-proper}
+use Rattle.promises.proofs.FiniteChecks.{passed, admitted-proper}
 use Rattle.promises.proofs.Finite.{point-small}
 use Rattle.promises.proofs.ErrorsPlanes.{plane-within}
 use Rattle.promises.proofs.ErrorsQuadrics.{QuadricWithin, zero-within, plane-quadric, sum-within}
-use Rattle.promises.proofs.Weights.{planesMost, Weighed}
+use Rattle.promises.proofs.Weights.{Weighed}
 
 -- ---- the sum of the weights
 
@@ -49,11 +47,13 @@ three-held v f =
   where
     at : ℕ → ℕ → ℕ
     at c x = cond (eqb x c) 1 0
+
     split : (a b c : Bool) → cond (a || b || c) 1 0 ≤ cond a 1 0 + cond b 1 0 + cond c 1 0
     split true b c = omega arith
     split false true c = omega arith
     split false false true = omega arith
     split false false false = omega arith
+
     single : (c : ℕ) → sum (at c) (below v) ≤ 1
     single c = rw (sum-pick (λ x. 1) c v) (flag-le (ltb c v))
 
