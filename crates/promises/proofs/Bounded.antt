@@ -7,7 +7,7 @@ use native.Mathlib.Omega.{arith}
 use mathlib.Core.Path.{_≡_, refl, sym, _∙_}
 use mathlib.Core.Bool.{Bool, true, false, not, _&&_, _||_, false≢true}
 use mathlib.Mathlib.Data.Bool.Basic.{and-elim-left, and-elim-right, or-inl, or-inr}
-use lib.IntN.{pos, negsuc}
+use lib.IntN.{negsuc}
 use lib.Dec.{ltb, eqb}
 use lib.Pow.{pow-pos, pow-mono}
 use lib.Ieee.{Float, nan, inf, fin, binary32, up, down, unlike, neg, le, add, mul, ofBits}
@@ -23,22 +23,8 @@ use Rattle.placement.specs.Errors.{errorAt}
 use Rattle.placement.specs.declared.place.Placement.{Placement}
 use Rattle.placement.specs.declared.place.Placement.the-variants.{Solved, Unsolved}
 use Rattle.placement.specs.Places.{inSize, solved, stands, tested, two, longerOf, costBelow, cheaper, fallback, pointOr, placeOf}
-use Rattle.meaning.specs.Answers.{badCoordinate}
+use Rattle.promises.specs.Finite.{small, smallPoint, power}
 use Rattle.promises.proofs.Floats.{AtMost, most, Has, has-power, most-wider, round-most, add-most}
-
--- ---- what is within the bound
-
--- a coordinate that 7 lets pass: finite, and at most the bound in size
-abbrev pub small : Float → Float → Bool
-small bound x = not (badCoordinate bound x)
-
--- every part of a point
-abbrev pub smallPoint : Float → Point → Bool
-smallPoint bound p = small bound (p .x) && small bound (p .y) && small bound (p .z)
-
--- 2^b
-abbrev pub power : ℕ → Float
-power b = fin false 1 (pos b)
 
 -- ---- the tests, and the bound on the size
 

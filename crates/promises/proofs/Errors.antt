@@ -13,14 +13,12 @@ use lib.Ieee.{Float}
 use lib.Ieee.Scale.{finite}
 use Rattle.lists.proofs.TestLaws.{flag-true}
 use Rattle.lists.proofs.SumLaws.{witness}
-use Rattle.geometry.specs.Points.{middle}
 use Rattle.placement.specs.declared.Limit.{Limit}
 use Rattle.placement.specs.declared.pair.Vertex.{Vertex}
 use Rattle.placement.specs.Choices.{fixed, aboveLimit}
-use Rattle.placement.specs.Errors.{errorAt}
 use Rattle.placement.specs.Pairs.{pairQuadric, pairLength, pairPlace, pairCost, eligible}
 use Rattle.walk.specs.declared.Pair.{Pair}
-use Rattle.walk.specs.Faces.{holds, proper, dataOf}
+use Rattle.walk.specs.Faces.{holds, proper}
 use Rattle.walk.specs.Pairs.{pairOf, eligiblePair}
 use Rattle.walk.specs.Sound.{Sound}
 use Rattle.walk.proofs.FaceLaws.{held-below}
@@ -32,24 +30,18 @@ use Rattle.meaning.specs.Call.{coordinateBound, Lent, inputOf}
 use Rattle.meaning.specs.Input.{Input}
 use Rattle.meaning.specs.Answers.{verdictOf}
 use Rattle.meaning.specs.Outcome.{rulesIn, startOf, targetOf}
-use Rattle.promises.proofs.Bounded.{power, small-within, within-wider, middle-within, place-within}
-use Rattle.promises.proofs.Finite.{smallVertex, stateAt, document-bound, data-small, walk-finite}
+use Rattle.promises.specs.Finite.{smallVertex, power, stateAt}
+use Rattle.promises.specs.Errors.{held, carriedAt, PairFinite}
+use Rattle.promises.proofs.Bounded.{small-within, within-wider, middle-within, place-within}
+use Rattle.promises.proofs.Finite.{document-bound, data-small, walk-finite}
 use Rattle.promises.proofs.ErrorsPlanes.{length-finite}
 use Rattle.promises.proofs.ErrorsQuadrics.{QuadricWithin, quadric-wider, error-finite}
-use Rattle.promises.proofs.Weights.{held, shared-held, Weighed, two-weights, pair-within, walk-weighed}
+use Rattle.promises.proofs.Weights.{shared-held, Weighed, two-weights, pair-within, walk-weighed}
 use Rattle.promises.proofs.WeightsStart.{start-weighed, start-sound}
 
 -- ---- one pair
 
--- what is worked out for a pair is finite: its length, the errors at the three places that are compared where the solved point may not stand, and its cost
-pub record PairFinite (bound : Float) (keep remove : Vertex) : Type 0 where
-  pub length-known : finite (pairLength keep remove) ≡ true
-  pub error-at-keep : finite (errorAt (pairQuadric keep remove) (keep .point)) ≡ true
-  pub error-at-remove : finite (errorAt (pairQuadric keep remove) (remove .point)) ≡ true
-  pub error-at-middle : finite (errorAt (pairQuadric keep remove) (middle (keep .point) (remove .point))) ≡ true
-  pub cost-known : finite (pairCost bound keep remove) ≡ true
-
--- it is so where the points are within the bound, and the pair's quadric has a weight of at most 2^20
+-- its numbers are finite where the points are within the bound, and the pair's quadric has a weight of at most 2^20
 pair-finite :
     {bound : Float} (b w : ℕ) → b ≤ 20 → bound ≡ power b → (keep remove : Vertex)
     → smallVertex bound keep ≡ true → smallVertex bound remove ≡ true → w ≤ 2 ^ 20 → QuadricWithin w 194 (pairQuadric keep remove) → PairFinite bound keep remove
@@ -75,10 +67,6 @@ by-rest limit {bound} {keep} {remove} known =
     rw (known .cost-known) (and-true (not (fixed (keep .kind) || fixed (remove .kind)) && not (aboveLimit (pairLength keep remove) limit)))
 
 -- ---- in every state that the walk reaches
-
--- what a point carries after n steps
-abbrev pub carriedAt : Input → ℕ → ℕ → Vertex
-carriedAt i n x = dataOf (rulesIn i) (stateAt i n .mesh) x
 
 module _ (i : Input) (b : ℕ) (fits : b ≤ 20) (is-power : i .bound ≡ power b) (admitted : verdictOf i ≡ Admitted) (n : ℕ) where
   -- it is sound, and the quadrics have their weights

@@ -29,20 +29,9 @@ use Rattle.meaning.specs.Answers.{verdictOf}
 use Rattle.meaning.specs.declared.Options.{Options}
 use Rattle.meaning.specs.Call.{coordinateBound, Lent, inputOf}
 use Rattle.meaning.specs.Outcome.{rulesIn, startOf, targetOf, lastMesh, partsIn, outcome, outcomeBy, stuck}
-use Rattle.promises.proofs.Bounded.{small, smallPoint, power, small-within, within-small, nought-most, place-within}
+use Rattle.promises.specs.Finite.{small, smallPoint, smallVertex, SmallMesh, power, stateAt}
+use Rattle.promises.proofs.Bounded.{small-within, within-small, nought-most, place-within}
 use Rattle.promises.proofs.FiniteChecks.{passed}
-
--- what 7 lets pass, of a point with all that it carries
-abbrev pub smallVertex : Float → Vertex → Bool
-smallVertex bound v = smallPoint bound (v .point)
-
--- every point of a mesh
-abbrev pub SmallMesh : Float → Mesh Vertex → Type 0
-SmallMesh bound m = every (smallVertex bound) (m .points) ≡ true
-
--- the state after n steps of the walk of an input
-abbrev pub stateAt : Input → ℕ → State Vertex
-stateAt i n = walk (plainMachine (rulesIn i) (targetOf i)) n (startOf i)
 
 -- document 01's bound is a power of two
 pub document-bound : coordinateBound ≡ power 20

@@ -18,7 +18,7 @@ use Rattle.meaning.specs.declared.Verdict.{Verdict}
 use Rattle.meaning.specs.declared.Verdict.the-variants.{Refused, Copied, Admitted}
 use Rattle.meaning.specs.Input.{Input, pointsIn, facesIn}
 use Rattle.meaning.specs.Answers.{uneven, large, short, empty, badRatio, badLimit, badCoordinate, outside, doubled, faceVerdict, contentsVerdict, verdictOf}
-use Rattle.promises.proofs.Bounded.{small}
+use Rattle.promises.specs.Finite.{small}
 
 -- whether a verdict is a refusal
 abbrev pub refused : Verdict → Bool

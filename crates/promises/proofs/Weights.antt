@@ -33,14 +33,11 @@ use Rattle.walk.proofs.SoundLaws.{isOpen, open-differ, open-shared, open-below}
 use Rattle.walk.proofs.MachineLaws.{walk-keeps}
 use Rattle.walk.proofs.StepLaws.{Told, answer-told, step-sound}
 use Rattle.meaning.specs.Arithmetic.{mergedVertex, rulesOf}
+use Rattle.promises.specs.Errors.{held}
 use Rattle.promises.proofs.Floats.{has-power}
 use Rattle.promises.proofs.ErrorsQuadrics.{QuadricWithin, sum-within}
 
 -- ---- points that live faces hold
-
--- some live face holds a point
-abbrev pub held : List Face → ℕ → Type 0
-held faces x = 0 < count (holds x) faces
 
 -- the two points of a pair that shares a face are held
 pub shared-held : (faces : List Face) (x y : ℕ) → 0 < shared faces x y → held faces x × held faces y

@@ -28,7 +28,8 @@ use Rattle.meaning.specs.Start.{faceQuadric, gathered, startVertex, startMesh}
 use Rattle.meaning.specs.Answers.{verdictOf}
 use Rattle.meaning.specs.Outcome.{rulesIn, startOf}
 use Rattle.promises.proofs.Floats.{has-power}
-use Rattle.promises.proofs.Bounded.{Within, smallPoint, power, small-within, within-wider}
+use Rattle.promises.specs.Finite.{smallPoint, power}
+use Rattle.promises.proofs.Bounded.{Within, small-within, within-wider}
 use Rattle.promises.proofs.FiniteChecks.{passed, admitted-proper}
 use Rattle.promises.proofs.Finite.{point-small}
 use Rattle.promises.proofs.ErrorsPlanes.{plane-within}
