@@ -2,9 +2,9 @@
 -- point too. The bound is a power of two, and f32 has its double. Assumes nothing.
 use Prim.Native.Nat.{ℕ, _+_, _*_, _^_, _≤_, _<_, zero-le}
 use native.Mathlib.Nat.{mul-one, one-mul, mul-comm, mul-assoc, mul-left-comm, mul-le-mul-left, mul-pos, le-of-eq, le-of-lt, le-trans, eq-or-lt-of-le}
-use mathlib.Core.Logic.{_⊎_, inl, inr, ⊎-elim}
 use native.Mathlib.Omega.{arith}
 use mathlib.Core.Path.{_≡_, refl, sym, _∙_}
+use mathlib.Core.Logic.{_⊎_, inl, inr, ⊎-elim}
 use mathlib.Core.Bool.{Bool, true, false, not, _&&_, _||_, false≢true}
 use mathlib.Mathlib.Data.Bool.Basic.{and-elim-left, and-elim-right, or-inl, or-inr}
 use lib.IntN.{negsuc}
@@ -33,12 +33,13 @@ kept : (b : Bool) → not (not b) ≡ true → b ≡ true
 kept true h = refl
 kept false h = h
 
--- at most, from the tests of less and of equal, either way round, and back
+-- at most, from the tests of less and of equal, which may stand either way round
 at-most : (a c : ℕ) (p : Bool) → (eqb a c ≡ p) ⊎ (eqb c a ≡ p) → (ltb a c || (p && true)) ≡ true → a ≤ c
 at-most a c p is h =
     either-of (ltb a c) (p && true) h (λ l. le-of-lt (ltb-true a c l))
     (λ q. let same : p ≡ true = and-elim-left p true q in ⊎-elim (λ e. le-of-eq (eqb-true a c (e ∙ same))) (λ e. le-of-eq (sym (eqb-true c a (e ∙ same)))) is)
 
+-- and back
 passes : (a c : ℕ) → a ≤ c → ((ltb a c || (eqb a c && true)) ≡ true) × ((ltb a c || (eqb c a && true)) ≡ true)
 passes a c h =
     ⊎-elim (λ e. (or-inr (ltb a c) _ (rw (eq-eqb a c e)), or-inr (ltb a c) _ (rw (eq-eqb c a (sym e))))) (λ l. (or-inl (ltb a c) _ (lt-ltb a c l), or-inl (ltb a c) _ (lt-ltb a c l)))
@@ -75,10 +76,12 @@ pub most-small : (b : ℕ) {x : Float} → AtMost 1 b x → small (power b) x �
 unfolding le neg
 most-small b (most {s = true} {m} {e} h) =
     let above : 0 < m * up e * 1 + 1 * 2 ^ b * down e = omega (arith, bound-above b (down-pos e)) in
-    pass (le (fin true m e) (power b)) (le (neg (power b)) (fin true m e)) (or-inl (ltb 0 (m * up e * 1 + 1 * 2 ^ b * down e)) _ (lt-ltb 0 _ above)) (passes (m * up e * 1) (1 * 2 ^ b * down e) (rw mul-one h) .1)
+    pass (le (fin true m e) (power b)) (le (neg (power b)) (fin true m e)) (or-inl (ltb 0 (m * up e * 1 + 1 * 2 ^ b * down e)) _ (lt-ltb 0 _ above))
+    (passes (m * up e * 1) (1 * 2 ^ b * down e) (rw mul-one h) .1)
 most-small b (most {s = false} {m} {e} h) =
     let above : 0 < 1 * 2 ^ b * down e + m * up e * 1 = omega (arith, bound-above b (down-pos e)) in
-    pass (le (fin false m e) (power b)) (le (neg (power b)) (fin false m e)) (passes (m * up e * 1) (1 * 2 ^ b * down e) (rw mul-one h) .0) (or-inl (ltb 0 (1 * 2 ^ b * down e + m * up e * 1)) _ (lt-ltb 0 _ above))
+    pass (le (fin false m e) (power b)) (le (neg (power b)) (fin false m e)) (passes (m * up e * 1) (1 * 2 ^ b * down e) (rw mul-one h) .0)
+    (or-inl (ltb 0 (1 * 2 ^ b * down e + m * up e * 1)) _ (lt-ltb 0 _ above))
 
 -- ---- the middle
 
@@ -92,7 +95,8 @@ halved : {b : ℕ} {x : Float} → Has binary32 1 b → AtMost 2 b x → AtMost 
 unfolding mul
 halved {b} has (most {s} {m} {e} h) =
     let parts : 2 * 2 ^ b * down e ≡ 1 * 2 ^ b * (down e * 2) = simp (one-mul, mul-assoc, mul-comm, mul-left-comm) in
-    round-most binary32 (unlike s false) (m * up e * (1 * 1)) (down e * 2) 1 b (mul-pos (down-pos e) (omega arith)) has (le-trans (le-of-eq (mul-one (m * up e))) (le-trans h (le-of-eq parts)))
+    round-most binary32 (unlike s false) (m * up e * (1 * 1)) (down e * 2) 1 b (mul-pos (down-pos e) (omega arith)) has
+    (le-trans (le-of-eq (mul-one (m * up e))) (le-trans h (le-of-eq parts)))
 
 -- `(x+y)*0.5`: the sum is at most twice the bound
 middle-most : (b : ℕ) {x y : Float} → b ≤ 126 → AtMost 1 b x → AtMost 1 b y → AtMost 1 b (mul binary32 (add binary32 x y) half)
@@ -120,7 +124,7 @@ pub nought-most : {k g : ℕ} → AtMost k g nought
 unfolding ofBits
 nought-most = most zero-le
 
--- by the tests, and back
+-- by the tests
 pub small-within : (b : ℕ) (p : Point) → smallPoint (power b) p ≡ true → Within 1 b p
 small-within b p h =
     let xy = and-elim-left (small (power b) (p .x) && small (power b) (p .y)) (small (power b) (p .z)) h in
@@ -130,6 +134,7 @@ small-within b p h =
       z-most = small-most b (p .z) (and-elim-right (small (power b) (p .x) && small (power b) (p .y)) (small (power b) (p .z)) h);
     }
 
+-- and back
 pub within-small : (b : ℕ) (p : Point) → Within 1 b p → smallPoint (power b) p ≡ true
 within-small b p h = rw (most-small b (h .x-most), most-small b (h .y-most), most-small b (h .z-most))
 

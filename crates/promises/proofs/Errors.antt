@@ -6,8 +6,8 @@ use native.Mathlib.Nat.{le-trans, le-of-eq, mul-le-mul-right, one-mul}
 use native.Mathlib.Omega.{arith}
 use mathlib.Core.Path.{_≡_, sym, subst, _∙_}
 use mathlib.Core.Bool.{true, not, _&&_, _||_, cond, and-true}
-use lib.Pow.{pow-add}
 use mathlib.Core.List.{List}
+use lib.Pow.{pow-add}
 use lib.ListN.{length}
 use lib.Ieee.{Float}
 use lib.Ieee.Scale.{finite}

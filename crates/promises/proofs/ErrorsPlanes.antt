@@ -36,7 +36,9 @@ difference-within p r =
 minor-most : {u v x y : Float} → AtMost 2 20 u → AtMost 2 20 v → AtMost 2 20 x → AtMost 2 20 y → AtMost 8 40 (sub binary32 (mul binary32 u v) (mul binary32 x y))
 minor-most u v x y =
     let has = has-power binary32 4 40 2 (omega arith) (omega arith) (omega arith) in
-    sub-most binary32 {j = 4} {k = 4} (has-power binary32 8 40 3 (omega arith) (omega arith) (omega arith)) (mul-most binary32 {i = 2} {j = 2} {g = 20} {h = 20} has u v) (mul-most binary32 {i = 2} {j = 2} {g = 20} {h = 20} has x y)
+    sub-most binary32 {j = 4} {k = 4} (has-power binary32 8 40 3 (omega arith) (omega arith) (omega arith))
+    (mul-most binary32 {i = 2} {j = 2} {g = 20} {h = 20} has u v)
+    (mul-most binary32 {i = 2} {j = 2} {g = 20} {h = 20} has x y)
 
 -- the normal of a face
 normal-within : {p0 p1 p2 : Point} → Within 1 20 p0 → Within 1 20 p1 → Within 1 20 p2 → Within 8 40 (normal p0 p1 p2)
@@ -50,10 +52,11 @@ normal-within p0 p1 p2 =
       z-most = minor-most (u .x-most) (v .y-most) (u .y-most) (v .x-most);
     }
 
--- f32 has the bounds of the two sums of squares
+-- f32 has the bound of a length's sum of squares
 has-length : Has binary32 12 40
 has-length = has-power binary32 12 40 4 (omega arith) (omega arith) (omega arith)
 
+-- and of a normal's
 has-norm : Has binary32 192 80
 has-norm = has-power binary32 192 80 8 (omega arith) (omega arith) (omega arith)
 
@@ -76,7 +79,9 @@ over-zero (most {s} {m} {e} h) known = go (eqb m 0) known
     go false k = false≢true k
 
 -- a part x over the root of s, which is at least 1 where x is above 1 in size
-over-root : {x s : Float} → AtMost 8 40 x → (Large x → AtLeast 0 s) → AtMost 192 80 s → NotBelow s → T (fits binary32 s) → finite (div binary32 x (root s)) ≡ true → AtMost 1 75 (div binary32 x (root s))
+over-root :
+    {x s : Float} → AtMost 8 40 x → (Large x → AtLeast 0 s) → AtMost 192 80 s → NotBelow s → T (fits binary32 s)
+    → finite (div binary32 x (root s)) ≡ true → AtMost 1 75 (div binary32 x (root s))
 over-root {x} {s} x-most one s-most s-plus s-fits known =
     ⊎-elim
     (λ l.
@@ -99,7 +104,8 @@ unit-within {p} p-most known =
     record {
       x-most = over-root (p-most .x-most) (dot-x {k = 8} {g = 40} has-norm p-most) s-most s-plus s-fits (and-elim-left (finite (div binary32 (p .x) (norm p))) _ xy);
       y-most = over-root (p-most .y-most) (dot-y {k = 8} {g = 40} has-norm p-most) s-most s-plus s-fits (and-elim-right (finite (div binary32 (p .x) (norm p))) _ xy);
-      z-most = over-root (p-most .z-most) (dot-z {k = 8} {g = 40} has-norm p-most) s-most s-plus s-fits (and-elim-right (finite (div binary32 (p .x) (norm p)) && finite (div binary32 (p .y) (norm p))) _ known);
+      z-most = over-root (p-most .z-most) (dot-z {k = 8} {g = 40} has-norm p-most) s-most s-plus s-fits
+          (and-elim-right (finite (div binary32 (p .x) (norm p)) && finite (div binary32 (p .y) (norm p))) _ known);
     }
 
 -- ---- planes

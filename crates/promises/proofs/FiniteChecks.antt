@@ -47,6 +47,7 @@ pub record Passed (i : Input) (w : Verdict) : Type 0 where
   -- ratio zero, or else the faces, decide
   pub then-faces : cond (eq (i .options .ratio) zeroFloat) Copied (faceVerdict (pointsIn i) 0 (facesOf (facesIn i) (i .faces))) ≡ w
 
+-- they have found it
 pub passed : (i : Input) (w : Verdict) → refused w ≡ false → verdictOf i ≡ w → Passed i w
 unfolding verdictOf contentsVerdict
 passed i w fine e =

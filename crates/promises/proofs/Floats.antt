@@ -45,20 +45,23 @@ most-wider j i wide (most {e = e} h) = most (le-trans h (mul-le-mul-right (down 
 
 -- ---- rounding
 
--- rounding keeps the sign, first without overflow and then with it
+-- one of two floats that are not negative
 either : (b : Bool) {x y : Float} → NotBelow x → NotBelow y → NotBelow (cond b x y)
 either true h k = h
 either false h k = k
 
+-- rounding keeps the sign: first without overflow
 odd-plus : (d q k l : ℕ) → NotBelow (odd d false q k l)
 unfolding odd
 odd-plus d zero k l = number
 odd-plus d (suc q) k l = number
 
+-- then with it
 units-plus : (f : Format) (q k : ℕ) → NotBelow (units f false q k)
 unfolding units
 units-plus f q k = either (ltb (q * 2 ^ k) (2 ^ (low f + suc (emax f)))) (odd-plus (suc (prec f)) q k (low f)) infinite
 
+-- and so as a whole
 pub round-plus : (f : Format) (a c : ℕ) → NotBelow (round f false a c)
 round-plus f a c = rw (round-is f false a c) (units-plus f _ _)
 
@@ -91,12 +94,13 @@ bound-exact f k g has =
     (lt-of-le-of-lt (le-of-eq regroup) (lt-of-lt-of-le (mul-lt-mul-of-pos-right (has .fine) (pow-pos (low f))) (le-of-eq all)))
     (sym (mul-one (k * 2 ^ (g + low f)) ∙ regroup))
 
--- either sign is as large
+-- either sign is as large: first without overflow
 odd-any : (k g d : ℕ) (s : Bool) (q j l : ℕ) → AtMost k g (odd d false q j l) → AtMost k g (odd d s q j l)
 unfolding odd
 odd-any k g d s zero j l (most h) = most h
 odd-any k g d s (suc q) j l (most h) = most h
 
+-- then with it
 units-any : (k g : ℕ) (f : Format) (s : Bool) (q j : ℕ) → AtMost k g (units f false q j) → AtMost k g (units f s q j)
 unfolding units
 units-any k g f s q j = go (ltb (q * 2 ^ j) (2 ^ (low f + suc (emax f))))

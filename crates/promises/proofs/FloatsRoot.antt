@@ -23,10 +23,11 @@ use Rattle.promises.proofs.Floats.{AtMost, most, Has, AtLeast, least}
 
 -- ---- the root rises with the pattern
 
--- so do the numbers that the root's statement compares
+-- so do the numbers that the root's statement compares: those of patterns
 steps-mono : (a b : ℕ) → a ≤ b → steps a ≤ steps b
 steps-mono a b h = ⊎-elim (λ e. le-of-eq (ap steps e)) (λ l. le-of-lt (steps-rise a b l)) (eq-or-lt-of-le h)
 
+-- and four times those
 fourfold-mono : (a b : ℕ) → a ≤ b → fourfold a ≤ fourfold b
 unfolding fourfold
 fourfold-mono a b h = go (2 ^ 149)
@@ -34,6 +35,7 @@ fourfold-mono a b h = go (2 ^ 149)
     go : (w : ℕ) → 4 * (steps a * w) ≤ 4 * (steps b * w)
     go w = mul-le-mul-left 4 (mul-le-mul-right w (steps-mono a b h))
 
+-- the root of a larger pattern is no smaller
 pub root-mono : (a b : ℕ) → a ≤ b → b < 0x7f80_0000 → finiteRoot a ≤ finiteRoot b
 root-mono a b h top = ⊎-elim (λ l. absurd (wrong l)) (λ l. l) (lt-or-le (finiteRoot b) (finiteRoot a))
   where
@@ -43,11 +45,12 @@ root-mono a b h top = ⊎-elim (λ l. absurd (wrong l)) (λ l. l) (lt-or-le (fin
         lt-irrefl (halfway (finiteRoot a - 1) * halfway (finiteRoot a - 1))
         (lt-of-lt-of-le (lt-trans (lt-of-lt-of-le (root-meets a (lt-of-le-of-lt h top) .above (omega arith)) (fourfold-mono a b h)) (root-meets b top .below)) (mul-le-mul up up))
 
--- the root of the largest finite pattern is finite, and so is every root below it
+-- the root of the largest finite pattern is finite
 last-root : finiteRoot 0x7f7f_ffff < 0x7f80_0000
 unfolding finiteRoot
 last-root = lit≤ tt
 
+-- and so is every root below it
 pub root-below : (b : ℕ) → b < 0x7f80_0000 → finiteRoot b < 0x7f80_0000
 root-below b h = lt-of-le-of-lt (root-mono b 0x7f7f_ffff (omega arith) (lit≤ tt)) last-root
 
@@ -91,11 +94,12 @@ least-value {a = a} c (least {m} {e} h) v =
     (le-trans (le-of-eq (mul-comm c (down e))) (le-trans (mul-le-mul-right c (le-trans h (le-of-eq (mul-one (m * up e))))) (le-of-eq (v .1))))
     (down-pos e)
 
--- the pattern of 1.0, and that of its root
+-- the pattern of 1.0
 one-steps : steps 0x3f80_0000 ≤ 2 ^ 149
 unfolding steps
 one-steps = lit≤ tt
 
+-- and that of its root
 root-of-one : 2 ^ 149 ≤ steps (finiteRoot 0x3f80_0000) * 2 ^ 0
 unfolding finiteRoot steps
 root-of-one = lit≤ tt

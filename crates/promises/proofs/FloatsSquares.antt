@@ -72,6 +72,7 @@ add-one-left f (least {m} {e} h) (number {m = n} {e = d}) b =
     round-one f (m * up e * down d + n * up d * down e) (down e * down d) (mul-pos (down-pos e) (down-pos d))
     (le-trans (mul-le-mul-right (down d) (le-trans h (le-of-eq (mul-one (m * up e))))) (le-add-right _ _)) b
 
+-- the same with the parts the other way round
 add-one-right : (f : Format) {k g : ℕ} {x y : Float} → AtLeast 0 y → NotBelow x → AtMost k g (add f x y) → AtLeast 0 (add f x y)
 unfolding add sum
 add-one-right f (least {m} {e} h) (number {m = n} {e = d}) b =
@@ -95,24 +96,31 @@ dot-most {j} {k} has p r =
 
 -- a point with itself
 module _ {k g : ℕ} {p : Point} (has : Has binary32 (k * k + k * k + k * k) (g + g)) (p-most : Within k g p) where
+  -- f32 has the bound of one square
   one : Has binary32 (k * k) (g + g)
   one = has-less (k * k) (omega arith) has
 
+  -- of two
   two : Has binary32 (k * k + k * k) (g + g)
   two = has-less (k * k + k * k) (omega arith) has
 
+  -- the square of x
   xx : AtMost (k * k) (g + g) (mul binary32 (p .x) (p .x))
   xx = mul-most binary32 one (p-most .x-most) (p-most .x-most)
 
+  -- of y
   yy : AtMost (k * k) (g + g) (mul binary32 (p .y) (p .y))
   yy = mul-most binary32 one (p-most .y-most) (p-most .y-most)
 
+  -- of z
   zz : AtMost (k * k) (g + g) (mul binary32 (p .z) (p .z))
   zz = mul-most binary32 one (p-most .z-most) (p-most .z-most)
 
+  -- the sum of the first two
   xy : AtMost (k * k + k * k) (g + g) (add binary32 (mul binary32 (p .x) (p .x)) (mul binary32 (p .y) (p .y)))
   xy = add-most binary32 two xx yy
 
+  -- which isn't negative
   xy-plus : NotBelow (add binary32 (mul binary32 (p .x) (p .x)) (mul binary32 (p .y) (p .y)))
   xy-plus = add-not-below binary32 (square-plus binary32 (p-most .x-most)) (square-plus binary32 (p-most .y-most))
 
@@ -120,7 +128,7 @@ module _ {k g : ℕ} {p : Point} (has : Has binary32 (k * k + k * k + k * k) (g 
   pub dot-plus : NotBelow (dot p p)
   dot-plus = add-not-below binary32 xy-plus (square-plus binary32 (p-most .z-most))
 
-  -- a part above 1 makes it at least 1
+  -- a part above 1 makes it at least 1: x
   pub dot-x : Large (p .x) → AtLeast 0 (dot p p)
   dot-x l =
       add-one-left binary32
@@ -128,6 +136,7 @@ module _ {k g : ℕ} {p : Point} (has : Has binary32 (k * k + k * k + k * k) (g 
       (square-plus binary32 (p-most .z-most))
       (dot-most has p-most p-most)
 
+  -- y
   pub dot-y : Large (p .y) → AtLeast 0 (dot p p)
   dot-y l =
       add-one-left binary32
@@ -135,5 +144,6 @@ module _ {k g : ℕ} {p : Point} (has : Has binary32 (k * k + k * k + k * k) (g 
       (square-plus binary32 (p-most .z-most))
       (dot-most has p-most p-most)
 
+  -- z
   pub dot-z : Large (p .z) → AtLeast 0 (dot p p)
   dot-z l = add-one-right binary32 (square-one binary32 l zz) xy-plus (dot-most has p-most p-most)

@@ -130,7 +130,8 @@ module _ (limit : Limit) (bound : Float) where
     -- the quadrics after the fold
     folded-parts :
         (x : ℕ) → x < length (s .mesh .points) → held (foldedFaces (s .mesh .faces) p) x
-        → QuadricWithin (foldedWeight (weighed .weight) p x) 194 (getD (set (s .mesh .points) (p .keep) (mergedOf (rulesOf limit bound) (s .mesh) p)) x (rulesOf limit bound .blank) .quadric)
+        → QuadricWithin (foldedWeight (weighed .weight) p x) 194
+        (getD (set (s .mesh .points) (p .keep) (mergedOf (rulesOf limit bound) (s .mesh) p)) x (rulesOf limit bound .blank) .quadric)
     folded-parts x x-v x-held =
         let rules = rulesOf limit bound in
         let k-r = open-differ s sound p is-open in
@@ -166,7 +167,9 @@ module _ (limit : Limit) (bound : Float) where
   -- ---- the walk
 
   -- after an answer
-  told-weighed : (s : State Vertex) → Sound s → Weighed (s .mesh) → (a : StepAnswer) → Told (rulesOf limit bound) (s .mesh) (s .«open») a → Weighed (after (rulesOf limit bound) s a .mesh)
+  told-weighed :
+      (s : State Vertex) → Sound s → Weighed (s .mesh) → (a : StepAnswer)
+      → Told (rulesOf limit bound) (s .mesh) (s .«open») a → Weighed (after (rulesOf limit bound) s a .mesh)
   unfolding after
   told-weighed s sound weighed (folded p) told = fold-weighed s sound weighed p (told .0)
   told-weighed s sound weighed (closed p) told = weighed
