@@ -72,7 +72,7 @@ module _ (i : Input) (b : ℕ) (fits : b ≤ 20) (is-power : i .bound ≡ power 
   -- it is sound, and the quadrics have their weights
   reached : Sound (stateAt i n) × Weighed (i .options .limit) (i .bound) (stateAt i n .mesh)
   reached =
-      walk-weighed (i .options .limit) (i .bound) (targetOf i) n (startOf i) (start-sound i b fits is-power admitted) (start-weighed i b fits is-power admitted)
+      walk-weighed (i .options .limit) (i .bound) (targetOf i) n (startOf i) (start-sound i admitted) (start-weighed i b fits is-power admitted)
 
   -- a point that a live face holds is one that there is
   held-inside : (x : ℕ) → held (stateAt i n .mesh .faces) x → x < length (stateAt i n .mesh .points)

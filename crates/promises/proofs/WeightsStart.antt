@@ -93,6 +93,13 @@ module _ (points : List Float) (v : ℕ) (near : (x : ℕ) → x < v → Within 
 
 -- ---- the start of an admitted mesh
 
+-- it is sound
+pub start-sound : (i : Input) → verdictOf i ≡ Admitted → Sound (startOf i)
+unfolding startOf startMesh
+start-sound i admitted =
+    started-sound (rulesIn i) _
+    (rw (length-each (startVertex (i .points) (facesOf (facesIn i) (i .faces)) (pointsIn i) (i .options .preserve)) (pointsIn i)) (admitted-proper i admitted))
+
 module _ (i : Input) (b : ℕ) (fits : b ≤ 20) (is-power : i .bound ≡ power b) (admitted : verdictOf i ≡ Admitted) where
   -- its points are at most 2^20 in size
   start-near : (x : ℕ) → x < pointsIn i → Within 1 20 (pointAt (i .points) x)
@@ -122,10 +129,3 @@ module _ (i : Input) (b : ℕ) (fits : b ≤ 20) (is-power : i .bound ≡ power 
             (rw zero-add at (gathered-within (i .points) (pointsIn i) start-near x 0 zeroQuadric faces (admitted-proper i admitted)
             (omega (arith, count-most (holds x) faces, faces-long, checked .faces-most)) zero-within));
       }
-
-  -- the start is sound
-  pub start-sound : Sound (startOf i)
-  unfolding startOf startMesh
-  start-sound =
-      started-sound (rulesIn i) _
-      (rw (length-each (startVertex (i .points) (facesOf (facesIn i) (i .faces)) (pointsIn i) (i .options .preserve)) (pointsIn i)) (admitted-proper i admitted))
