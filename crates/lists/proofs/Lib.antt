@@ -3,6 +3,7 @@ pub mod TestLaws
 pub mod CondLaws
 pub mod SumLaws
 pub mod EveryLaws
+pub mod MemberLaws
 pub mod BelowLaws
 pub mod BagLaws
 pub mod DropLaws

@@ -1,6 +1,6 @@
 -- The reader's statements are tight: any two outcomes that one of them allows coincide.
 -- Assumes nothing.
-use Prim.Native.Nat.{ℕ, _*_}
+use Prim.Native.Nat.{ℕ}
 use mathlib.Core.Path.{_≡_, sym, _∙_}
 use mathlib.Core.List.{List}
 use lib.Ieee.{Float}
@@ -15,13 +15,13 @@ pub scan-determined : (bytes : List ℕ) {r₁ r₂ : Scan} → r₁ ≡ scanOf 
 scan-determined bytes a b = a ∙ sym b
 
 -- read_points and read_faces: every cell of the list that they write to
-pub points-determined : (bytes : List ℕ) (points : ℕ) {out out₁ out₂ : List Float} →
+pub points-determined : (bytes : List ℕ) (points : ℕ) (out : List Float) {out₁ out₂ : List Float} →
     out₁ ≡ overlaid (pointsOf bytes points) out → out₂ ≡ overlaid (pointsOf bytes points) out → out₁ ≡ out₂
-points-determined bytes points a b = a ∙ sym b
+points-determined bytes points out a b = a ∙ sym b
 
-pub faces-determined : (bytes : List ℕ) (points faces : ℕ) {out out₁ out₂ : List ℕ} →
+pub faces-determined : (bytes : List ℕ) (points faces : ℕ) (out : List ℕ) {out₁ out₂ : List ℕ} →
     out₁ ≡ overlaid (faceNumbersOf bytes points faces) out → out₂ ≡ overlaid (faceNumbersOf bytes points faces) out → out₁ ≡ out₂
-faces-determined bytes points faces a b = a ∙ sym b
+faces-determined bytes points faces out a b = a ∙ sym b
 
 -- hjoltravan_scan: the number and the eight cells
 pub told-determined : (bytes : List ℕ) {r₁ r₂ : ℕ} {cells₁ cells₂ : List ℕ} →
