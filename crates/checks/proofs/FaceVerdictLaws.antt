@@ -16,8 +16,8 @@ use Rattle.meaning.specs.declared.Verdict.{Verdict}
 use Rattle.meaning.specs.declared.Verdict.the-variants.{Refused, Copied, Admitted}
 use Rattle.meaning.specs.Answers.{outside, doubled, faceVerdict}
 use Rattle.checks.specs.Facts.{LowestBad}
-use Rattle.checks.proofs.SearchLaws.{first-here, first-there}
-use Rattle.checks.proofs.OrderLaws.{goes-on, past, decided}
+use Rattle.lists.proofs.FirstLaws.{first-here, first-there}
+use Rattle.meaning.proofs.VerdictOrder.{goes-on, past, decided}
 
 -- a face is proper exactly where neither 8 nor 9 holds of it
 by-truth : (inside ab bc ca : Bool) → (inside && not ab && not bc && not ca) ≡ (not (not inside) && not (ab || bc || ca))

@@ -4,6 +4,7 @@ pub mod CondLaws
 pub mod SumLaws
 pub mod EveryLaws
 pub mod MemberLaws
+pub mod FirstLaws
 pub mod BelowLaws
 pub mod BagLaws
 pub mod DropLaws

@@ -10,6 +10,9 @@ pub mod SoundLaws
 pub mod StepLaws
 pub mod WalkLaws
 pub mod GoneLaws
+pub mod EligibleLaws
+pub mod StillLaws
+pub mod FairLaws
 pub mod LeastLaws
 pub mod BagWalk
 pub mod OpenSums
