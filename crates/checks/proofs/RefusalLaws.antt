@@ -19,9 +19,9 @@ use Rattle.bits.specs.Cut.{zeroFloat}
 use Rattle.meaning.specs.Answers.{uneven, large, short, empty, badRatio, badLimit, badCoordinate, outside, faceVerdict, contentsVerdict, verdictOf}
 use Rattle.checks.specs.Facts.{noFace, LowestBad, InTable}
 use Rattle.checks.proofs.SearchLaws.{length-faces}
-use Rattle.meaning.proofs.VerdictOrder.{past, decided}
+use Rattle.meaning.proofs.VerdictOrder.{refuses, past, decided}
 use Rattle.checks.proofs.OrderLaws.{not-large}
-use Rattle.checks.proofs.FaceVerdictLaws.{refuses, lowest-of}
+use Rattle.checks.proofs.FaceVerdictLaws.{lowest-of}
 use Rattle.checks.proofs.VerdictLaws.{passed-six}
 
 -- ---- the places of 7, 8 and 9

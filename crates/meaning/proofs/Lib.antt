@@ -1,3 +1,4 @@
 -- What follows from the statement of a call, and the order of its numbers.
 pub mod Determined
 pub mod VerdictOrder
+pub mod FaceVerdictLaws

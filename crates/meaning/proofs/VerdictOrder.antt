@@ -4,6 +4,23 @@ use mathlib.Core.Path.{_≡_, refl, sym, ap, _∙_}
 use mathlib.Core.Logic.{_⊎_, inl, inr}
 use mathlib.Core.Bool.{Bool, true, false, cond}
 use Rattle.meaning.specs.declared.Verdict.{Verdict}
+use Rattle.meaning.specs.declared.Verdict.the-variants.{Refused, Copied, Admitted}
+
+-- the kinds of verdict: admitted, refused, copied
+abbrev pub admits : Verdict → Bool
+admits (Refused n p) = false
+admits Copied = false
+admits Admitted = true
+
+abbrev pub refuses : Verdict → Bool
+refuses (Refused n p) = true
+refuses Copied = false
+refuses Admitted = false
+
+abbrev pub copies : Verdict → Bool
+copies (Refused n p) = false
+copies Copied = true
+copies Admitted = false
 
 -- a test that the code made holds: its verdict is given
 pub decides : (made test : Bool) (x later : Verdict) → made ≡ test → made ≡ true → x ≡ cond test x later

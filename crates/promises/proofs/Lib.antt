@@ -1,0 +1,4 @@
+-- What document 01 promises of every admitted input, and which input is answered how.
+pub mod Admitted
+pub mod Ended
+pub mod Eligible

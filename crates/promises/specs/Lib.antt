@@ -1,0 +1,2 @@
+-- Words that the promises are said in.
+pub mod Steps
