@@ -2,3 +2,4 @@
 pub mod Determined
 pub mod VerdictOrder
 pub mod FaceVerdictLaws
+pub mod PartsLaws

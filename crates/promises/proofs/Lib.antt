@@ -2,3 +2,4 @@
 pub mod Admitted
 pub mod Ended
 pub mod Eligible
+pub mod Fixed
