@@ -1,38 +1,30 @@
 -- A fixed point never moves: it is in no fold, carries after every step what it carried at the start, and is written with its input bits.
 -- Assumes nothing.
-use Prim.Native.Nat.{ℕ, zero, suc, _+_, _*_, _<_}
-use native.Mathlib.Nat.{le-of-suc-le-suc, not-suc-le-zero}
+use Prim.Native.Nat.{ℕ, _<_}
 use native.Mathlib.Omega.{arith}
-use mathlib.Core.Path.{_≡_, refl, sym, ap, _∙_}
+use mathlib.Core.Path.{_≡_, ap, _∙_}
 use mathlib.Core.Logic.{_≢_}
-use mathlib.Core.List.{List, [], _∷_}
-use mathlib.Core.Bool.{Bool, true, false, not, _&&_, cond}
-use mathlib.Mathlib.Data.Bool.Basic.{and-elim-left, and-elim-right}
-use borrow.Author.Tests.{eqb-true, lt-ltb}
-use lib.Dec.{ltb, eqb}
-use lib.ListN.{length, getD}
-use lib.Ieee.{Float, nan}
-use Rattle.lists.specs.Lists.{every, some, below}
-use Rattle.lists.proofs.TestLaws.{by-test, clash, both-true}
-use Rattle.lists.proofs.EveryLaws.{every-all, every-some}
+use mathlib.Core.List.{[]}
+use mathlib.Core.Bool.{Bool, true, false, _&&_, cond}
+use mathlib.Mathlib.Data.Bool.Basic.{and-elim-right}
+use lib.Dec.{ltb}
+use Rattle.lists.specs.Lists.{some}
+use Rattle.lists.proofs.TestLaws.{by-test}
 use Rattle.lists.proofs.BelowLaws.{getD-each}
-use Rattle.geometry.specs.declared.Point.{Point}
 use Rattle.placement.specs.declared.Kind.the-variants.{Free, Border}
 use Rattle.placement.specs.declared.pair.Vertex.{Vertex}
 use Rattle.placement.specs.Choices.{fixed}
-use Rattle.walk.specs.declared.Face.{Face}
 use Rattle.walk.specs.declared.Pair.{Pair}
-use Rattle.walk.specs.Faces.{holds, shared, borderEdge, borderPoint, proper, Rules, Mesh, dataOf}
+use Rattle.walk.specs.Faces.{holds, borderPoint, dataOf}
 use Rattle.walk.specs.Walk.{walk, started, folded}
 use Rattle.walk.specs.Output.{used, placeIn}
-use Rattle.walk.proofs.FaceLaws.{at-corner, held-below}
-use Rattle.walk.proofs.FoldLaws.{shared-face}
+use Rattle.walk.proofs.BorderLaws.{border-below}
 use Rattle.walk.proofs.StepLaws.{answer-folded}
 use Rattle.walk.proofs.StillLaws.{held-apart, walk-still}
 use Rattle.walk.proofs.PlaceLaws.{place-below, getD-place}
 use Rattle.walk.proofs.RenumberLaws.{used-held}
 use Rattle.meaning.specs.declared.Verdict.the-variants.{Admitted}
-use Rattle.meaning.specs.Input.{Input, pointsIn, facesIn, pointAt}
+use Rattle.meaning.specs.Input.{Input, pointsIn, pointAt}
 use Rattle.meaning.specs.Answers.{verdictOf}
 use Rattle.meaning.specs.Arithmetic.{rulesOf}
 use Rattle.meaning.specs.Start.{startVertex, startMesh}
@@ -65,16 +57,6 @@ pub start-carried : (i : Input) (x : ℕ) → x < pointsIn i → dataOf (rulesIn
 unfolding startOf started startMesh
 start-carried i x small = getD-each (startOfPoint i) (pointsIn i) x (rulesIn i .blank) small
 
--- a border point is a point of a face
-border-held : (v : ℕ) (faces : List Face) (x : ℕ) → every (proper v) faces ≡ true → borderPoint v faces x ≡ true → x < v
-unfolding borderPoint
-border-held v faces x all border =
-    let edge = every-some (λ (y : ℕ). true) (borderEdge faces x) (below v) (every-all (λ y. true) (λ y. refl) (below v)) border in
-    let y = edge .0 in
-    let one : shared faces x y ≡ 1 = eqb-true (shared faces x y) 1 (and-elim-right (not (eqb x y)) (eqb (shared faces x y) 1) (edge .2)) in
-    let f = shared-face (proper v) faces x y all (omega arith) in
-    held-below v (f .0) x (f .1) (f .2)
-
 -- the kind of a point that is fixed at the start
 kind-fixed : (preserve border : Bool) → (preserve && border) ≡ true → fixed (cond (preserve && border) Border Free) ≡ true
 kind-fixed preserve border e = rw e
@@ -82,7 +64,7 @@ kind-fixed preserve border e = rw e
 module _ (i : Input) (admitted : verdictOf i ≡ Admitted) (x : ℕ) (is-fixed : fixedPoint i x ≡ true) where
   pub fixed-below : x < pointsIn i
   fixed-below =
-      border-held (pointsIn i) (givenFaces i) x (passed i admitted .faces-proper)
+      border-below (pointsIn i) (givenFaces i) x (passed i admitted .faces-proper)
       (and-elim-right (i .options .preserve) (borderPoint (pointsIn i) (givenFaces i) x) is-fixed)
 
   -- no eligible pair has it

@@ -3,3 +3,5 @@ pub mod Admitted
 pub mod Ended
 pub mod Eligible
 pub mod Fixed
+pub mod Fair
+pub mod Border

@@ -1,2 +1,3 @@
 -- Words that the promises are said in.
 pub mod Steps
+pub mod Fair

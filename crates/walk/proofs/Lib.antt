@@ -4,6 +4,7 @@ pub mod RunLaws
 pub mod GoingLaws
 pub mod FaceLaws
 pub mod FoldLaws
+pub mod BorderLaws
 pub mod SamePairs
 pub mod PairLaws
 pub mod SoundLaws
