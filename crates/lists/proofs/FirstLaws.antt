@@ -47,13 +47,17 @@ first-of test d (x ∷ xs) e = first-by test d x xs (test x) refl (λ (b : test 
 
 -- and the place of the first is `firstOf`
 module _ {A : Type 0} (test : A → Bool) (d : A) where
+  -- the first, where it is not at the head, is the first of the others
+  pub first-later : (x : A) (xs : List A) {k : ℕ} → FirstAt test d (x ∷ xs) (suc k) → FirstAt test d xs k
+  first-later x xs f = record { within = le-of-suc-le-suc (f .within); passes = f .passes; none-before = λ j h. f .none-before (suc j) (suc-le-suc h) }
+
   pub first-place : (xs : List A) (k : ℕ) → FirstAt test d xs k → firstOf test xs ≡ k
   unfolding firstOf
   first-place [] k f = absurd (not-suc-le-zero (f .within))
   first-place (x ∷ xs) zero f = rw (f .passes)
   first-place (x ∷ xs) (suc k) f =
       rw (f .none-before 0 (omega arith))
-      (ap suc (first-place xs k (record { within = le-of-suc-le-suc (f .within); passes = f .passes; none-before = λ j h. f .none-before (suc j) (suc-le-suc h) })))
+      (ap suc (first-place xs k (first-later x xs f)))
 
   -- so one passes
   pub first-some : (xs : List A) {k : ℕ} → FirstAt test d xs k → some test xs ≡ true

@@ -1,3 +1,4 @@
 -- Words that the promises are said in.
 pub mod Steps
 pub mod Fair
+pub mod Table
