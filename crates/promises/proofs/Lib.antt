@@ -5,3 +5,8 @@ pub mod Eligible
 pub mod Fixed
 pub mod Fair
 pub mod Border
+pub mod Says
+pub mod Words
+pub mod Rows
+pub mod ExactlyWhen
+pub mod Refused
