@@ -156,8 +156,11 @@ module _ (i : Input) (bounded : i .bound ≡ coordinateBound) where
   contents-row : Past6 i → Some i
   contents-row p =
       by-test (some (badCoordinate (i .bound)) (i .points))
-      (λ t. (7, firstOf (badCoordinate (i .bound)) (i .points),
-      row-7 p (first-says (badCoordinate (i .bound)) nan (i .points) (each-coordinate i bounded) (first-of (badCoordinate (i .bound)) nan (i .points) t))))
+      (λ t. (
+        7,
+        firstOf (badCoordinate (i .bound)) (i .points),
+        row-7 p (first-says (badCoordinate (i .bound)) nan (i .points) (each-coordinate i bounded) (first-of (badCoordinate (i .bound)) nan (i .points) t)),
+      ))
       (λ none.
       let past : Past7 i = (p, none-says (badCoordinate (i .bound)) nan (i .points) (each-coordinate i bounded) none) in
       by-test (eq (i .options .ratio) zeroFloat)

@@ -92,21 +92,23 @@ module _ (i : Input) (admitted : verdictOf i ≡ Admitted) (n : ℕ) (p : Pair) 
     one-stays-fair one =
         let parts = both-true (holds (p .keep) f || holds (p .remove) f) (not (both (p .keep) (p .remove) f)) one in
         let not-both = not-true (both (p .keep) (p .remove) f) (parts .1) in
-        let g = renamedFace (p .keep) (p .remove) f in
-        (stays not-both,
-        rw (carried-after (g .a), carried-after (g .b), carried-after (g .c))
-        (not-turned _ _
-        (fair.one-fair (rulesIn i) (stateAt i n .mesh) p fold-of-two (open-below (stateAt i n) (states-sound i admitted n) p (told .0) .0)
-        (told .1) f live (parts .0) not-both)))
+        let g = renamedFace (p .keep) (p .remove) f in (
+          stays not-both,
+          rw (carried-after (g .a), carried-after (g .b), carried-after (g .c))
+              (not-turned _ _
+              (fair.one-fair (rulesIn i) (stateAt i n .mesh) p fold-of-two (open-below (stateAt i n) (states-sound i admitted n) p (told .0) .0)
+              (told .1) f live (parts .0) not-both)),
+        )
 
     -- one that holds neither is there as it was, and so is what its points carry
     pub neither-stays-same :
         holdsNeither p f ≡ true
         → List·Memᴰ f (facesAt i (n + 1)) × ((x : ℕ) → holds x f ≡ true → carried i (n + 1) x ≡ carried i n x)
     neither-stays-same none =
-        let parts = neither-of (holds (p .keep) f) (holds (p .remove) f) (not-true _ none) in
-        (rw (fair.face-same (p .keep) (p .remove) f (parts .1)) at (stays (rw (parts .0))),
-        λ x has. carried-after x ∙ fair.neither-same (rulesIn i) (stateAt i n .mesh) p f (parts .0) x has)
+        let parts = neither-of (holds (p .keep) f) (holds (p .remove) f) (not-true _ none) in (
+          rw (fair.face-same (p .keep) (p .remove) f (parts .1)) at (stays (rw (parts .0))),
+          λ x has. carried-after x ∙ fair.neither-same (rulesIn i) (stateAt i n .mesh) p f (parts .0) x has,
+        )
 
   -- ---- the faces after the step
 
