@@ -2,7 +2,7 @@
 -- Assumes nothing, not even that the input is admitted.
 use Prim.Native.Nat.{ℕ}
 use mathlib.Core.Path.{_≡_}
-use mathlib.Core.Bool.{Bool, true, false, not, _&&_, _||_}
+use mathlib.Core.Bool.{true, false, not, _&&_, _||_}
 use borrow.Author.Tests.{not-true}
 use lib.Ieee.{Float}
 use lib.Ieee.Scale.{finite}

@@ -1,16 +1,23 @@
 -- The walk that defines the outcome of an admitted input goes through sound states only and has come to its end; more steps change nothing.
 -- Assumes nothing.
-use Prim.Native.Nat.{ℕ, _≤_, _^_}
+use Prim.Native.Nat.{ℕ, _≤_}
 use native.Mathlib.Nat.{le-refl}
 use native.Mathlib.Omega.{arith}
 use mathlib.Core.Path.{_≡_, refl, ap, _∙_}
+use mathlib.Core.Logic.{_⊎_, inl, inr}
+use mathlib.Core.List.{[], List·Memᴰ}
+use borrow.Author.Tests.{ltb-true, ltb-false}
+use lib.Dec.{ltb}
 use lib.ListN.{length}
+use Rattle.lists.proofs.TestLaws.{by-test}
 use Rattle.lists.proofs.BelowLaws.{length-each}
 use Rattle.placement.specs.declared.pair.Vertex.{Vertex}
+use Rattle.walk.specs.declared.Pair.{Pair}
 use Rattle.walk.specs.Faces.{faceAt}
-use Rattle.walk.specs.Walk.{walk, foldList, State, ended, started, budget, answer, plainMachine}
+use Rattle.walk.specs.Walk.{walk, foldList, State, folded, ended, started, budget, answer, plainMachine}
 use Rattle.walk.specs.Sound.{Sound}
 use Rattle.walk.proofs.SoundLaws.{started-sound}
+use Rattle.walk.proofs.StepLaws.{ended-open, fold-answer}
 use Rattle.walk.proofs.MachineLaws as machines
 use Rattle.walk.proofs.WalkLaws.{plain-ending, walk-sound, walk-points, walk-ends, walk-enough}
 use Rattle.walk.proofs.StateLaws.{SoundFew}
@@ -21,6 +28,15 @@ use Rattle.meaning.specs.Start.{startVertex, startMesh}
 use Rattle.meaning.specs.Outcome.{rulesIn, startOf, targetOf, lastMesh, foldsWalked}
 use Rattle.promises.specs.Steps.{stateAt, answerAt, foldsTo, budgetOf, givenFaces}
 use Rattle.promises.proofs.Admitted.{passed}
+
+-- ---- the folds
+
+-- every fold that the outcome counts and lists is the answer of some step
+pub folds-are-steps : (i : Input) (p : Pair) → List·Memᴰ p (foldsWalked i) → (n : ℕ) × (answerAt i n ≡ folded p)
+unfolding foldsWalked
+folds-are-steps i p m =
+    let (n, _, there) = machines.foldList-step (plainMachine (rulesIn i) (targetOf i)) (budgetOf i) (startOf i) p m in
+    (n, fold-answer (answerAt i n) p there)
 
 -- ---- the start
 
@@ -85,3 +101,11 @@ module _ (i : Input) (admitted : verdictOf i ≡ Admitted) where
   wherever-ended n e =
       let over = machines.walk-over (plain-ending (rulesIn i) (targetOf i) (facesIn i)) n (startOf i) (start-sound, few) e in
       (ap (λ (s : State Vertex). s .mesh) (over .0), over .1)
+
+  -- it has ended at the target, or with no pair open
+  pub ended-because : (length (lastMesh i .faces) ≤ targetOf i) ⊎ (stateAt i (budgetOf i) .«open» ≡ [])
+  unfolding lastMesh
+  ended-because =
+      by-test (ltb (targetOf i) (length (lastMesh i .faces)))
+      (λ above. inr (ended-open (rulesIn i) (targetOf i) (stateAt i (budgetOf i)) walk-has-ended (ltb-true (targetOf i) (length (lastMesh i .faces)) above)))
+      (λ few. inl (ltb-false (targetOf i) (length (lastMesh i .faces)) few))

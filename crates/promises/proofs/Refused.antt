@@ -1,11 +1,10 @@
 -- What a refusal leaves: zeros in the last three, and both outputs as they came; and the work memory is untouched exactly on 1 to 9.
 -- Asks of an input, for the memory, only that its bound is 1,048,576, as `exactly-when` does.
 use Prim.Native.Nat.{ℕ}
-use native.Mathlib.Omega.{arith}
-use mathlib.Core.Path.{_≡_, refl, sym, ap, _∙_}
+use mathlib.Core.Path.{_≡_, refl, ap, _∙_}
 use mathlib.Core.Logic.{_≢_}
 use mathlib.Core.List.{[]}
-use mathlib.Core.Bool.{Bool, true, false, not, _&&_}
+use mathlib.Core.Bool.{true, false, not, _&&_}
 use lib.Dec.{leb, ltb}
 use Rattle.lists.proofs.TestLaws.{by-test}
 use Rattle.meaning.specs.declared.Verdict.{Verdict}

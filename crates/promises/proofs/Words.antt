@@ -1,14 +1,12 @@
 -- The tests that the verdict is made of say the words of document 01's table.
 -- Assumes nothing.
-use Prim.Native.Nat.{ℕ, _+_, _*_, _%_, _<_}
+use Prim.Native.Nat.{ℕ, _+_, _*_, _%_}
 use mathlib.Core.Path.{_≡_, refl, sym, ap, _∙_}
-use mathlib.Core.List.{List}
 use mathlib.Core.Bool.{Bool, true, false, not, _&&_, _||_, or-assoc, false≢true}
 use lib.Dec.{ltb, eqb}
 use lib.ListN.{length, getD}
 use lib.Ieee.{Float, nan, inf, fin, isNan, lt, le, eq, neg, ofBits}
 use lib.Ieee.Scale.{finite}
-use Rattle.lists.proofs.TestLaws.{by-outcome}
 use Rattle.bits.specs.Cut.{zeroFloat, oneFloat}
 use Rattle.bits.proofs.FloatOrder.{le-total}
 use Rattle.placement.specs.declared.Limit.{Limit}

@@ -1,5 +1,4 @@
 -- A face that is neither squashed nor turned over (document 01, "A fold is allowed if").
-use Prim.Native.Nat.{ℕ}
 use mathlib.Core.Path.{_≡_}
 use mathlib.Core.Bool.{Bool, true, not, _&&_, _||_}
 use lib.Ieee.{binary32, mul, lt}

@@ -16,7 +16,7 @@ use Rattle.walk.specs.Fold.{foldedMesh}
 use Rattle.walk.specs.Walk.{walk, State, StepAnswer, folded, closed, ended, started, answer, after, plainMachine}
 use Rattle.walk.proofs.MachineLaws.{walk-keeps}
 use Rattle.walk.proofs.PairLaws.{apart-known}
-use Rattle.walk.proofs.SoundLaws.{isOpen, pair-passes}
+use Rattle.walk.proofs.SoundLaws.{pair-passes}
 use Rattle.walk.proofs.StepLaws.{answer-folded}
 
 module _ {D : Type 0} (rules : Rules D) where

@@ -1,15 +1,15 @@
 -- What a fold does to each face: the faces that hold both points are gone, and the others are there after it, under keep's number, as the fold test saw them.
 -- Assumes nothing.
 use Prim.Native.Nat.{ℕ, _≤_, _<_}
-use mathlib.Core.Path.{_≡_, refl, sym, ap, _∙_}
+use mathlib.Core.Path.{_≡_, sym, ap, _∙_}
 use mathlib.Core.Logic.{_≢_}
 use mathlib.Core.List.{List, List·Memᴰ}
-use mathlib.Core.Bool.{Bool, true, false, not, _&&_, _||_, cond, or-true}
+use mathlib.Core.Bool.{Bool, true, false, not, _&&_, _||_, or-true}
 use lib.Dec.{leb, eqb}
 use lib.ListN.{length}
 use lib.Seq.{getD-set-same, getD-set-other}
 use borrow.Author.Tests.{leb-true, eqb-true, eqb-false, not-true}
-use Rattle.lists.specs.Lists.{those, every}
+use Rattle.lists.specs.Lists.{every}
 use Rattle.lists.proofs.TestLaws.{by-test, clash, both-true, neither-of, eqb-sym}
 use Rattle.lists.proofs.MemberLaws.{member-passes, member-those, those-member, member-map, map-member}
 use Rattle.walk.specs.declared.Face.{Face}
