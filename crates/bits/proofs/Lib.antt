@@ -3,6 +3,7 @@ pub mod NotANumber
 pub mod PatternOrder
 pub mod NotBelowZero
 pub mod RootSteps
+pub mod FloatOrder
 pub mod RootTies
 pub mod RootLaws
 pub mod RootValues

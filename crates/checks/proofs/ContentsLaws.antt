@@ -12,8 +12,8 @@ use Rattle.meaning.specs.declared.Verdict.{Verdict}
 use Rattle.meaning.specs.declared.Verdict.the-variants.{Refused, Copied}
 use Rattle.bits.specs.Cut.{zeroFloat}
 use Rattle.meaning.specs.Answers.{badCoordinate, faceVerdict, contentsVerdict}
-use Rattle.checks.proofs.SearchLaws.{some-is-before-the-end}
-use Rattle.checks.proofs.OrderLaws.{decides, goes-on}
+use Rattle.lists.proofs.FirstLaws.{some-is-before-the-end}
+use Rattle.meaning.proofs.VerdictOrder.{decides, goes-on}
 
 -- `bad` is the place that the code found
 module _ (points : List Float) (faces : List ℕ) (ratio bound : Float) {bad : ℕ} (e : bad ≡ firstOf (badCoordinate bound) points) where

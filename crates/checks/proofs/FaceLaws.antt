@@ -11,7 +11,7 @@ use Rattle.walk.specs.Faces.{facesOf, faceAt}
 use Rattle.meaning.specs.declared.Verdict.the-variants.{Refused, Admitted}
 use Rattle.meaning.specs.Answers.{outside, doubled, faceVerdict}
 use Rattle.checks.proofs.SearchLaws.{length-faces, faces-from}
-use Rattle.checks.proofs.OrderLaws.{decides, goes-on}
+use Rattle.meaning.proofs.VerdictOrder.{decides, goes-on}
 
 module _ (v f : ℕ) (numbers : List ℕ) where
   -- what is known where the faces before number k were proper: the faces from k on decide

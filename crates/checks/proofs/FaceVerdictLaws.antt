@@ -1,84 +1,17 @@
--- What the faces' verdict says of them: all are proper, or the lowest that is not is named, 8 before 9.
+-- The face that a refusal names: the lowest that is not proper, 8 before 9.
 use Prim.Native.Nat.{ℕ, suc, _+_}
 use native.Mathlib.Omega.{arith}
-use mathlib.Core.Path.{_≡_, refl, sym, _∙_}
+use mathlib.Core.Path.{_≡_}
 use mathlib.Core.Logic.{⊎-elim}
 use mathlib.Core.List.{List, [], _∷_}
-use mathlib.Core.Bool.{Bool, true, false, not, _&&_, _||_, cond}
-use mathlib.Mathlib.Data.Bool.Basic.{and-intro}
-use borrow.Author.Tests.{not-true}
-use lib.Dec.{ltb, eqb}
+use mathlib.Core.Bool.{true, false, cond}
 use Rattle.walk.specs.declared.Face.{Face}
-use Rattle.lists.specs.Lists.{every}
-use Rattle.lists.proofs.TestLaws.{both-true}
-use Rattle.walk.specs.Faces.{proper}
-use Rattle.meaning.specs.declared.Verdict.{Verdict}
-use Rattle.meaning.specs.declared.Verdict.the-variants.{Refused, Copied, Admitted}
+use Rattle.lists.proofs.FirstLaws.{first-here, first-there}
+use Rattle.meaning.specs.declared.Verdict.the-variants.{Refused}
 use Rattle.meaning.specs.Answers.{outside, doubled, faceVerdict}
+use Rattle.meaning.proofs.VerdictOrder.{decided}
+use Rattle.meaning.proofs.FaceVerdictLaws.{proper-is, proper-of}
 use Rattle.checks.specs.Facts.{LowestBad}
-use Rattle.checks.proofs.SearchLaws.{first-here, first-there}
-use Rattle.checks.proofs.OrderLaws.{goes-on, past, decided}
-
--- a face is proper exactly where neither 8 nor 9 holds of it
-by-truth : (inside ab bc ca : Bool) → (inside && not ab && not bc && not ca) ≡ (not (not inside) && not (ab || bc || ca))
-by-truth false ab bc ca = refl
-by-truth true true bc ca = refl
-by-truth true false true ca = refl
-by-truth true false false ca = refl
-
-proper-is : (v : ℕ) (f : Face) → proper v f ≡ (not (outside v f) && not (doubled f))
-proper-is v f = by-truth (ltb (f .a) v && ltb (f .b) v && ltb (f .c) v) (eqb (f .a) (f .b)) (eqb (f .b) (f .c)) (eqb (f .c) (f .a))
-
--- so a face is proper that neither holds of
-proper-of : (v : ℕ) (f : Face) → outside v f ≡ false → doubled f ≡ false → proper v f ≡ true
-proper-of v f o d = proper-is v f ∙ rw (o, d)
-
--- the kinds of verdict: admitted, refused, copied
-abbrev pub admits : Verdict → Bool
-admits (Refused n p) = false
-admits Copied = false
-admits Admitted = true
-
--- no face is refused exactly where every face is proper
-pub faces-proper-of : (v k : ℕ) (fs : List Face) → faceVerdict v k fs ≡ Admitted → every (proper v) fs ≡ true
-unfolding faceVerdict every
-faces-proper-of v k [] e = refl
-faces-proper-of v k (f ∷ fs) e =
-    let o = past admits (outside v f) (Refused 8 k) _ refl refl e in
-    let d = past admits (doubled f) (Refused 9 k) _ refl refl (o .1) in
-    and-intro (proper-of v f (o .0) (d .0)) (faces-proper-of v (suc k) fs (d .1))
-
--- and back
-pub faces-admitted : (v k : ℕ) (fs : List Face) → every (proper v) fs ≡ true → faceVerdict v k fs ≡ Admitted
-unfolding faceVerdict every
-faces-admitted v k [] e = refl
-faces-admitted v k (f ∷ fs) e =
-    let each = both-true (proper v f) _ e in
-    let parts = both-true (not (outside v f)) (not (doubled f)) (sym (proper-is v f) ∙ each .0) in
-    sym
-    (goes-on (outside v f) _ (Refused 8 k) _ _ refl (not-true _ (parts .0))
-    (goes-on (doubled f) _ (Refused 9 k) _ _ refl (not-true _ (parts .1)) (sym (faces-admitted v (suc k) fs (each .1)))))
-
-abbrev pub refuses : Verdict → Bool
-refuses (Refused n p) = true
-refuses Copied = false
-refuses Admitted = false
-
--- the faces never have a mesh copied
-abbrev pub copies : Verdict → Bool
-copies (Refused n p) = false
-copies Copied = true
-copies Admitted = false
-
-pub faces-not-copied : (v k : ℕ) (fs : List Face) → faceVerdict v k fs ≡ Copied → ⊥
-unfolding faceVerdict
-faces-not-copied v k [] e = let z : _≡_ {A = ℕ} 0 1 = cc in omega arith
-faces-not-copied v k (f ∷ fs) e =
-    let o = past copies (outside v f) (Refused 8 k) _ refl refl e in
-    let d = past copies (doubled f) (Refused 9 k) _ refl refl (o .1) in
-    faces-not-copied v (suc k) fs (d .1)
-
--- ---- the face that a refusal names
 
 -- p is the lowest bad face's number, where the first of the list has number k
 pub lowest-of : (v k : ℕ) (fs : List Face) {n p : ℕ} → faceVerdict v k fs ≡ Refused n p → (j : ℕ) × ((p ≡ k + j) × LowestBad v fs n j)

@@ -1,30 +1,10 @@
--- The order of the numbers: the first test that holds decides.
+-- A test that does not hold, as the code finds it.
 use Prim.Native.Nat.{ℕ, _≤_}
-use mathlib.Core.Path.{_≡_, refl, sym, ap, _∙_}
-use mathlib.Core.Logic.{_⊎_, inl, inr}
-use mathlib.Core.Bool.{Bool, true, false, cond}
+use mathlib.Core.Path.{_≡_, sym, _∙_}
+use mathlib.Core.Bool.{Bool, false}
 use borrow.Author.Tests.{ltb-false}
-use Rattle.meaning.specs.declared.Verdict.{Verdict}
 use Rattle.meaning.specs.Answers.{large}
 use Rattle.lists.proofs.TestLaws.{neither-of}
-
--- a test that the code made holds: its verdict is given
-pub decides : (made test : Bool) (x later : Verdict) → made ≡ test → made ≡ true → x ≡ cond test x later
-decides made test x later e t = rw (← e, t)
-
--- it does not hold: the later ones decide
-pub goes-on : (made test : Bool) (x later r : Verdict) → made ≡ test → made ≡ false → r ≡ later → r ≡ cond test x later
-goes-on made test x later r e t l = rw (← e, t) l
-
--- a verdict of a kind that x is not of: the test did not hold, and the later ones decided
-pub past : (kind : Verdict → Bool) (test : Bool) (x later : Verdict) {r : Verdict} → kind x ≡ false → kind r ≡ true → cond test x later ≡ r → (test ≡ false) × (later ≡ r)
-past kind false x later other same e = (refl, e)
-past kind true x later other same e = let z : false ≡ true = sym other ∙ ap kind e ∙ same in (sym z, cc)
-
--- by which of the two a verdict came
-pub decided : (test : Bool) (x later : Verdict) {r : Verdict} → cond test x later ≡ r → ((test ≡ true) × (x ≡ r)) ⊎ ((test ≡ false) × (later ≡ r))
-decided true x later e = inl (refl, e)
-decided false x later e = inr (refl, e)
 
 -- a test that the code made does not hold
 pub found-not : (made test : Bool) → made ≡ test → made ≡ false → test ≡ false

@@ -9,17 +9,19 @@ use borrow.Author.Tests.{le-leb}
 use lib.ListN.{length, getD}
 use lib.Ieee.{Float, nan, eq}
 use Rattle.walk.specs.declared.Face.{Face}
-use Rattle.lists.specs.Lists.{some, firstOf}
+use Rattle.lists.specs.Lists.{some, firstOf, FirstAt}
+use Rattle.lists.proofs.FirstLaws.{first-of}
 use Rattle.walk.specs.Faces.{facesOf}
 use Rattle.meaning.specs.declared.Verdict.{Verdict}
 use Rattle.meaning.specs.declared.Verdict.the-variants.{Refused, Copied}
 use Rattle.meaning.specs.Input.{Input, pointsIn, facesIn}
 use Rattle.bits.specs.Cut.{zeroFloat}
 use Rattle.meaning.specs.Answers.{uneven, large, short, empty, badRatio, badLimit, badCoordinate, outside, faceVerdict, contentsVerdict, verdictOf}
-use Rattle.checks.specs.Facts.{noFace, FirstAt, LowestBad, InTable}
-use Rattle.checks.proofs.SearchLaws.{first-of, length-faces}
-use Rattle.checks.proofs.OrderLaws.{past, decided, not-large}
-use Rattle.checks.proofs.FaceVerdictLaws.{refuses, lowest-of}
+use Rattle.checks.specs.Facts.{noFace, LowestBad, InTable}
+use Rattle.checks.proofs.SearchLaws.{length-faces}
+use Rattle.meaning.proofs.VerdictOrder.{refuses, past, decided}
+use Rattle.checks.proofs.OrderLaws.{not-large}
+use Rattle.checks.proofs.FaceVerdictLaws.{lowest-of}
 use Rattle.checks.proofs.VerdictLaws.{passed-six}
 
 -- ---- the places of 7, 8 and 9

@@ -18,8 +18,8 @@ use Rattle.meaning.specs.Answers.{uneven, large, short, empty, badRatio, badLim
 use Rattle.checks.specs.Facts.{Sized, Copiable, Admissible}
 use Rattle.lists.proofs.TestLaws.{both-true, neither-of}
 use Rattle.checks.proofs.TestLaws.{neither, by-three, even-threes, above-zero, not-zero, each-fails, none-passes}
-use Rattle.checks.proofs.OrderLaws.{decides, goes-on, past}
-use Rattle.checks.proofs.FaceVerdictLaws.{admits, copies, faces-proper-of, faces-admitted, faces-not-copied}
+use Rattle.meaning.proofs.VerdictOrder.{admits, copies, decides, goes-on, past}
+use Rattle.meaning.proofs.FaceVerdictLaws.{faces-proper-of, faces-admitted, faces-not-copied}
 
 -- ---- numbers 1 to 6
 

@@ -7,7 +7,7 @@ use lib.Dec.{T}
 use lib.ListN.{length, getD}
 use lib.Ieee.{nan, le, eq}
 use Rattle.walk.specs.declared.Face.{Face}
-use Rattle.lists.specs.Lists.{every}
+use Rattle.lists.specs.Lists.{every, FirstAt}
 use Rattle.walk.specs.Faces.{proper, facesOf}
 use Rattle.meaning.specs.Input.{Input, pointsIn, facesIn}
 use Rattle.bits.specs.Cut.{zeroFloat, oneFloat}
@@ -50,12 +50,6 @@ pub record Admissible (i : Input) : Type 0 where
   pub faces-proper : every (proper (pointsIn i)) (facesOf (facesIn i) (i .faces)) ≡ true
 
 -- ---- the place of a refusal
-
--- k is the place of the first that passes. `past` stands for what is past the end, and is never read.
-pub record FirstAt {A : Type 0} (test : A → Bool) (past : A) (xs : List A) (k : ℕ) : Type 0 where
-  pub within : k < length xs
-  pub passes : test (getD xs k past) ≡ true
-  pub none-before : (j : ℕ) → j < k → test (getD xs j past) ≡ false
 
 -- a face that 8 or 9 holds of
 abbrev pub improper : ℕ → Face → Bool

@@ -1,2 +1,3 @@
--- What the calls through C share.
+-- What the calls through C share, and that their statements are tight.
 mod CallLaws
+pub mod Determined

@@ -1,2 +1,3 @@
 -- Laws of the listing, with no code in sight.
 pub mod TextLaws
+pub mod Determined

@@ -8,10 +8,10 @@ use mathlib.Core.List.{List, [], _∷_, _++_, map}
 use mathlib.Core.Bool.{Bool, true, false, not, _&&_, _||_, cond, false≢true, and-assoc, or-assoc}
 use mathlib.Mathlib.Data.Bool.Basic.{and-elim-left, and-elim-right, and-intro, or-inl, or-inr}
 use lib.Dec.{ltb, eqb}
-use lib.ListN.{length, getD}
+use lib.ListN.{length, getD, set}
 use borrow.Author.Tests.{lt-ltb, eq-eqb, ne-eqb}
 use Rattle.lists.specs.Lists.{sum, count, those, every, some, without}
-use Rattle.lists.proofs.TestLaws.{by-test, false-of, flag-le, flag-mono}
+use Rattle.lists.proofs.TestLaws.{by-test, false-of, flag-le, flag-mono, neither-of}
 use Rattle.lists.proofs.SumLaws.{sum-those, sum-same, sum-mono, sum-zero, sum-length, sum-times, sum-without}
 
 -- one more element, as a test and as a count
@@ -142,6 +142,24 @@ module _ {A : Type 0} where
   unfolding every
   every-all test passes [] = refl
   every-all test passes (x ∷ xs) = every-cons test x xs (passes x) (every-all test passes xs)
+
+  -- where none passes a test, every one fails it
+  pub none-every : (test : A → Bool) (xs : List A) → some test xs ≡ false → every (λ x. not (test x)) xs ≡ true
+  unfolding some every
+  none-every test [] h = refl
+  none-every test (x ∷ xs) h = let n = neither-of (test x) (some test xs) h in rw (n .0, none-every test xs (n .1))
+
+  -- what every one passes, the default too, is passed at any number
+  pub every-default : (test : A → Bool) (d : A) (xs : List A) → every test xs ≡ true → test d ≡ true → (i : ℕ) → test (getD xs i d) ≡ true
+  every-default test d [] all other i = other
+  every-default test d (x ∷ xs) all other zero = every-head test x xs all
+  every-default test d (x ∷ xs) all other (suc i) = every-default test d xs (every-tail test x xs all) other i
+
+  -- one that passes, put in the place of another
+  pub every-set : (test : A → Bool) (xs : List A) (k : ℕ) (a : A) → every test xs ≡ true → test a ≡ true → every test (set xs k a) ≡ true
+  every-set test [] k a all one = all
+  every-set test (x ∷ xs) zero a all one = every-cons test a xs one (every-tail test x xs all)
+  every-set test (x ∷ xs) (suc k) a all one = every-cons test x (set xs k a) (every-head test x xs all) (every-set test xs k a (every-tail test x xs all) one)
 
   -- where every one passes a test, those that pass a second one pass what follows from both
   pub every-those :

@@ -3,8 +3,11 @@ pub mod TestLaws
 pub mod CondLaws
 pub mod SumLaws
 pub mod EveryLaws
+pub mod MemberLaws
+pub mod FirstLaws
 pub mod BelowLaws
 pub mod BagLaws
+pub mod PartLaws
 pub mod DropLaws
 pub mod FrameLaws
 pub mod WrittenLaws

@@ -1,5 +1,5 @@
 -- Small things on lists: sums, counts, those that pass a test.
-use Prim.Native.Nat.{ℕ, zero, suc, _+_}
+use Prim.Native.Nat.{ℕ, zero, suc, _+_, _<_}
 use mathlib.Core.Path.{_≡_}
 use mathlib.Core.List.{List, [], _∷_, _++_, map}
 use mathlib.Core.Bool.{Bool, true, false, _&&_, _||_, cond}
@@ -51,6 +51,12 @@ stretch w base n = map (λ i. getD w (base + i) 0) (below n)
 unfoldable pub firstOf : {A : Type 0} → (A → Bool) → List A → ℕ
 firstOf test [] = 0
 firstOf test (x ∷ xs) = cond (test x) 0 (suc (firstOf test xs))
+
+-- k is the place of the first that passes. `past` stands for what is past the end, and is never read.
+pub record FirstAt {A : Type 0} (test : A → Bool) (past : A) (xs : List A) (k : ℕ) : Type 0 where
+  pub within : k < length xs
+  pub passes : test (getD xs k past) ≡ true
+  pub none-before : (j : ℕ) → j < k → test (getD xs j past) ≡ false
 
 -- a list written over the beginning of another
 abbrev pub overlaid : {A : Type 0} → List A → List A → List A

@@ -1,2 +1,5 @@
--- What follows from the statement of a call.
+-- What follows from the statement of a call, and the order of its numbers.
 pub mod Determined
+pub mod VerdictOrder
+pub mod FaceVerdictLaws
+pub mod PartsLaws

@@ -24,7 +24,7 @@ use Rattle.lists.specs.Lists.{those, every, some, without, below, firstOf}
 use Rattle.walk.specs.Faces.{borderPoint, borderCount}
 use Rattle.walk.specs.Fold.{foldedFaces, foldedMesh}
 use Rattle.walk.specs.FoldTest.{fairFace, allowed}
-use Rattle.walk.specs.Pairs.{pairsBelow, order, least, opened}
+use Rattle.walk.specs.Pairs.{pairOf, pairsBelow, eligiblePair, order, least, opened}
 use Rattle.walk.specs.Walk.{walk, foldList, foldOf, budget, started, tried, chosen, answer, after}
 use Rattle.walk.specs.Output.{used, placeIn, renumbered, numbersOf}
 use Rattle.meaning.specs.Arithmetic.{fairPoints, mergedVertex, rulesOf}
@@ -33,7 +33,7 @@ use Rattle.meaning.specs.Input.{Input}
 use Rattle.meaning.specs.Answers.{faceVerdict, contentsVerdict, verdictOf}
 use Rattle.meaning.specs.declared.Answer.{Answer}
 use Rattle.meaning.specs.Call.{coordinateBound}
-use Rattle.meaning.specs.Outcome.{startOf, targetOf, lastMesh, foldsWalked, partsIn, refusal, Outcome, outcomeBy, outcome, foldsBy, foldsOf, pairNumbers}
+use Rattle.meaning.specs.Outcome.{rulesIn, startOf, targetOf, lastMesh, foldsWalked, partsIn, refusal, Outcome, outcomeBy, outcome, foldsBy, foldsOf, pairNumbers}
 
 -- a mesh, its points by their bits, with a ratio by its bits, preserve on or off and a limit, and room for ten points and ten faces
 abbrev meshWith : List ℕ → List ℕ → ℕ → Bool → Limit → Input
@@ -113,3 +113,18 @@ examples =
 pub examples-hold : map (λ e. shown (outcome (e .input)) (foldsOf (e .input))) examples ≡ map (λ e. e .out) examples
 unfolding outcome outcomeBy pairNumbers foldsOf foldsBy partsIn foldsWalked lastMesh targetOf startOf startMesh gathered rulesOf mergedVertex fairPoints numbersOf renumbered placeIn used foldList walk after answer chosen tried opened started least order budget foldOf pairsBelow foldedMesh allowed fairFace foldedFaces borderCount borderPoint without those every some below lists.sum placeOf fallback cheaper tested stands solved eligible pairCost pairPlace pairLength pairQuadric inverse errorAt planeOf unitNormal allFinite normal norm root rootBits finiteRoot bitsRoot.largest halfway fourfold steps floatKey orderKey narrowed cut target flatMap verdictOf contentsVerdict faceVerdict firstOf span climb size odd units round neg ieee.sum add sub mul div lt eq le ofInt toUnsigned isNan ofFields ofBits toBits
 examples-hold = refl
+
+-- ---- the limit on a pair's length
+
+-- limits, by their bits, and whether the square's pair (0,1), whose length is 2.0, is eligible at the start: 1.0, the f32 below 2.0, 2.0
+abbrev pub limits : List (ℕ × Bool)
+limits = (0x3f80_0000, false) ∷ (0x3fff_ffff, false) ∷ (0x4000_0000, true) ∷ []
+
+-- the square at ratio 0.5 with a limit
+abbrev limited : ℕ → Input
+limited limit = square 0x3f00_0000 false (AtMost (ofBits binary32 limit))
+
+-- they come out
+pub limits-hold : map (λ l. eligiblePair (rulesIn (limited (l .0))) (startOf (limited (l .0)) .mesh) (pairOf 0 1)) limits ≡ map (λ l. l .1) limits
+unfolding startOf startMesh gathered rulesOf started those some below lists.sum borderPoint placeOf fallback cheaper tested stands solved eligible pairCost pairPlace pairLength pairQuadric inverse errorAt planeOf unitNormal allFinite normal norm root rootBits finiteRoot bitsRoot.largest halfway fourfold steps floatKey orderKey narrowed span climb size odd units round neg ieee.sum add sub mul div lt eq le ofInt toUnsigned isNan ofFields ofBits toBits
+limits-hold = refl

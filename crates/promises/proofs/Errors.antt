@@ -30,14 +30,16 @@ use Rattle.meaning.specs.Call.{coordinateBound, Lent, inputOf}
 use Rattle.meaning.specs.Input.{Input}
 use Rattle.meaning.specs.Answers.{verdictOf}
 use Rattle.meaning.specs.Outcome.{rulesIn, startOf, targetOf}
-use Rattle.promises.specs.Finite.{smallVertex, power, stateAt}
-use Rattle.promises.specs.Errors.{held, carriedAt, PairFinite}
+use Rattle.promises.specs.Steps.{stateAt, carried}
+use Rattle.promises.specs.Finite.{smallVertex, power}
+use Rattle.promises.specs.Errors.{held, PairFinite}
 use Rattle.promises.proofs.Bounded.{small-within, within-wider, middle-within, place-within}
 use Rattle.promises.proofs.Finite.{document-bound, data-small, walk-finite}
 use Rattle.promises.proofs.ErrorsPlanes.{length-finite}
 use Rattle.promises.proofs.ErrorsQuadrics.{QuadricWithin, quadric-wider, error-finite}
 use Rattle.promises.proofs.Weights.{shared-held, Weighed, two-weights, pair-within, walk-weighed}
-use Rattle.promises.proofs.WeightsStart.{start-weighed, start-sound}
+use Rattle.promises.proofs.WeightsStart.{start-weighed}
+use Rattle.promises.proofs.Ended.{start-sound}
 
 -- ---- one pair
 
@@ -82,37 +84,33 @@ module _ (i : Input) (b : ℕ) (fits : b ≤ 20) (is-power : i .bound ≡ power 
       held-below v (w .0) x (w .1) (flag-true (holds x (w .0)) (w .2))
 
   -- every two points that live faces hold make a pair whose numbers are finite
-  pub pairs-finite : (x y : ℕ) → held (stateAt i n .mesh .faces) x → held (stateAt i n .mesh .faces) y → PairFinite (i .bound) (carriedAt i n x) (carriedAt i n y)
+  pub pairs-finite : (x y : ℕ) → held (stateAt i n .mesh .faces) x → held (stateAt i n .mesh .faces) y → PairFinite (i .bound) (carried i n x) (carried i n y)
   pairs-finite x y x-held y-held =
       let small = walk-finite i b (omega arith) is-power admitted n in
       let x-v = held-inside x x-held in
       let y-v = held-inside y y-held in
-      pair-finite b _ fits is-power (carriedAt i n x) (carriedAt i n y)
+      pair-finite b _ fits is-power (carried i n x) (carried i n y)
       (data-small (i .options .limit) b (omega arith) is-power (stateAt i n .mesh) small x)
       (data-small (i .options .limit) b (omega arith) is-power (stateAt i n .mesh) small y)
       (two-weights (i .options .limit) (i .bound) (stateAt i n .mesh) (reached .1) x y x-v y-v)
       (pair-within (i .options .limit) (i .bound) (stateAt i n .mesh) (reached .1) x y x-v y-v x-held y-held)
 
   -- so the numbers of every open pair are: the walk compares finite costs
-  pub open-finite : (p : Pair) → isOpen (stateAt i n) p → PairFinite (i .bound) (carriedAt i n (p .keep)) (carriedAt i n (p .remove))
+  pub open-finite : (p : Pair) → isOpen (stateAt i n) p → PairFinite (i .bound) (carried i n (p .keep)) (carried i n (p .remove))
   open-finite p is-open =
       let both = shared-held (stateAt i n .mesh .faces) (p .keep) (p .remove) (open-shared (stateAt i n) (reached .0) p is-open) in
       pairs-finite (p .keep) (p .remove) (both .0) (both .1)
-
-  -- the costs among them
-  pub costs-finite : (p : Pair) → isOpen (stateAt i n) p → finite (pairCost (i .bound) (carriedAt i n (p .keep)) (carriedAt i n (p .remove))) ≡ true
-  costs-finite p is-open = open-finite p is-open .cost-known
 
   -- and the rule that a pair's cost is finite refuses none of them: fixed points and the limit on the length decide alone
   pub eligible-alone :
       (x y : ℕ) → held (stateAt i n .mesh .faces) x → held (stateAt i n .mesh .faces) y
       → eligiblePair (rulesIn i) (stateAt i n .mesh) (pairOf x y)
-      ≡ (not (fixed (carriedAt i n x .kind) || fixed (carriedAt i n y .kind)) && not (aboveLimit (pairLength (carriedAt i n x) (carriedAt i n y)) (i .options .limit)))
+      ≡ (not (fixed (carried i n x .kind) || fixed (carried i n y .kind)) && not (aboveLimit (pairLength (carried i n x) (carried i n y)) (i .options .limit)))
   unfolding rulesOf
   eligible-alone x y x-held y-held = by-rest (i .options .limit) (pairs-finite x y x-held y-held)
 
 -- with document 01's bound, of any call that is admitted
 pub called-open-finite :
     (points : List Float) (faces : List ℕ) (options : Options) (b : Lent) → let i = inputOf points faces options b in
-    verdictOf i ≡ Admitted → (n : ℕ) (p : Pair) → isOpen (stateAt i n) p → PairFinite coordinateBound (carriedAt i n (p .keep)) (carriedAt i n (p .remove))
+    verdictOf i ≡ Admitted → (n : ℕ) (p : Pair) → isOpen (stateAt i n) p → PairFinite coordinateBound (carried i n (p .keep)) (carried i n (p .remove))
 called-open-finite points faces options b admitted n = open-finite (inputOf points faces options b) 20 (omega arith) document-bound admitted n

@@ -10,7 +10,7 @@ use lib.ListN.{getD, set}
 use lib.Ieee.{Float, nan, ofBits}
 use Rattle.lists.specs.Lists.{every}
 use Rattle.lists.proofs.TestLaws.{by-test}
-use Rattle.lists.proofs.EveryLaws.{every-at, every-head, every-tail, every-cons}
+use Rattle.lists.proofs.EveryLaws.{every-at, every-default, every-set}
 use Rattle.lists.proofs.BelowLaws.{every-below}
 use Rattle.placement.specs.declared.pair.Vertex.{Vertex}
 use Rattle.placement.specs.declared.Limit.{Limit}
@@ -29,28 +29,15 @@ use Rattle.meaning.specs.Answers.{verdictOf}
 use Rattle.meaning.specs.declared.Options.{Options}
 use Rattle.meaning.specs.Call.{coordinateBound, Lent, inputOf}
 use Rattle.meaning.specs.Outcome.{rulesIn, startOf, targetOf, lastMesh, partsIn, outcome, outcomeBy, stuck}
-use Rattle.promises.specs.Finite.{small, smallPoint, smallVertex, SmallMesh, power, stateAt}
+use Rattle.promises.specs.Steps.{stateAt}
+use Rattle.promises.specs.Finite.{small, smallPoint, smallVertex, SmallMesh, power}
 use Rattle.promises.proofs.Bounded.{small-within, within-small, nought-most, place-within}
-use Rattle.promises.proofs.FiniteChecks.{passed}
+use Rattle.promises.proofs.Admitted.{checked, checked-small, passed}
 
 -- document 01's bound is a power of two
 pub document-bound : coordinateBound ≡ power 20
 unfolding ofBits
 document-bound = refl
-
--- ---- lists
-
--- what every one passes, the default too, is passed at any number
-every-default : {A : Type 0} (test : A → Bool) (d : A) (xs : List A) → every test xs ≡ true → test d ≡ true → (i : ℕ) → test (getD xs i d) ≡ true
-every-default test d [] all other i = other
-every-default test d (x ∷ xs) all other zero = every-head test x xs all
-every-default test d (x ∷ xs) all other (suc i) = every-default test d xs (every-tail test x xs all) other i
-
--- one that passes, put in the place of another
-every-set : {A : Type 0} (test : A → Bool) (xs : List A) (k : ℕ) (a : A) → every test xs ≡ true → test a ≡ true → every test (set xs k a) ≡ true
-every-set test [] k a all one = all
-every-set test (x ∷ xs) zero a all one = every-cons test a xs one (every-tail test x xs all)
-every-set test (x ∷ xs) (suc k) a all one = every-cons test x (set xs k a) (every-head test x xs all) (every-set test xs k a (every-tail test x xs all) one)
 
 -- ---- the walk
 
@@ -109,7 +96,7 @@ module _ (i : Input) (b : ℕ) (fits : b ≤ 126) (is-power : i .bound ≡ power
   -- after any number of steps every coordinate of every point is finite and at most the bound in size
   pub walk-finite : verdictOf i ≡ Admitted → (n : ℕ) → SmallMesh (i .bound) (stateAt i n .mesh)
   walk-finite admitted n =
-      walk-small (i .options .limit) b fits is-power (targetOf i) n (startOf i) (start-small i (passed i Admitted refl admitted .coordinates))
+      walk-small (i .options .limit) b fits is-power (targetOf i) n (startOf i) (start-small i (passed i admitted .coordinates-small))
 
   -- and so in the mesh at the end
   pub last-finite : verdictOf i ≡ Admitted → SmallMesh (i .bound) (lastMesh i)
@@ -138,7 +125,7 @@ module _ (i : Input) (b : ℕ) (fits : b ≤ 126) (is-power : i .bound ≡ power
     where
       by-verdict : (w : Verdict) → verdictOf i ≡ w → every (small (i .bound)) (outcomeBy w i .points) ≡ true
       by-verdict (Refused number place) e = refl
-      by-verdict Copied e = passed i Copied refl e .coordinates
+      by-verdict Copied e = checked-small (checked i Copied refl e)
       by-verdict Admitted e =
           by-test (stuck i)
           (λ t. rw t)

@@ -1,12 +1,22 @@
--- What follows from the meaning for every admitted mesh, by subject.
+-- What document 01 promises of every admitted input, and which input is answered how.
+pub mod Admitted
+pub mod Ended
+pub mod Eligible
+pub mod Fixed
+pub mod Fair
+pub mod Border
+pub mod Says
+pub mod Words
+pub mod Rows
+pub mod ExactlyWhen
+pub mod Refused
 pub mod Floats
 pub mod FloatsRoot
-pub mod Bounded
 pub mod FloatsSquares
+pub mod Bounded
+pub mod Finite
 pub mod ErrorsPlanes
 pub mod ErrorsQuadrics
-pub mod FiniteChecks
-pub mod Finite
 pub mod Weights
 pub mod WeightsStart
 pub mod Errors

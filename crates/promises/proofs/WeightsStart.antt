@@ -1,5 +1,5 @@
 -- At the start a point's weight is the number of faces that hold it: its quadric has one bounded plane's for each, and three points a face make the sum.
--- The start is sound. Assumes nothing.
+-- Assumes nothing.
 use Prim.Native.Nat.{ℕ, _+_, _*_, _^_, _≤_, _<_}
 use native.Mathlib.Nat.{le-trans, le-of-eq, add-assoc, add-zero, zero-add}
 use native.Mathlib.Omega.{arith}
@@ -30,7 +30,7 @@ use Rattle.meaning.specs.Outcome.{rulesIn, startOf}
 use Rattle.promises.proofs.Floats.{has-power}
 use Rattle.promises.specs.Finite.{smallPoint, power}
 use Rattle.promises.proofs.Bounded.{Within, small-within, within-wider}
-use Rattle.promises.proofs.FiniteChecks.{passed, admitted-proper}
+use Rattle.promises.proofs.Admitted.{passed}
 use Rattle.promises.proofs.Finite.{point-small}
 use Rattle.promises.proofs.ErrorsPlanes.{plane-within}
 use Rattle.promises.proofs.ErrorsQuadrics.{QuadricWithin, zero-within, plane-quadric, sum-within}
@@ -93,20 +93,13 @@ module _ (points : List Float) (v : ℕ) (near : (x : ℕ) → x < v → Within 
 
 -- ---- the start of an admitted mesh
 
--- it is sound
-pub start-sound : (i : Input) → verdictOf i ≡ Admitted → Sound (startOf i)
-unfolding startOf startMesh
-start-sound i admitted =
-    started-sound (rulesIn i) _
-    (rw (length-each (startVertex (i .points) (facesOf (facesIn i) (i .faces)) (pointsIn i) (i .options .preserve)) (pointsIn i)) (admitted-proper i admitted))
-
 module _ (i : Input) (b : ℕ) (fits : b ≤ 20) (is-power : i .bound ≡ power b) (admitted : verdictOf i ≡ Admitted) where
   -- its points are at most 2^20 in size
   start-near : (x : ℕ) → x < pointsIn i → Within 1 20 (pointAt (i .points) x)
   start-near x inside =
       within-wider fits
       (small-within b (pointAt (i .points) x)
-      (subst (λ (c : Float). smallPoint c (pointAt (i .points) x) ≡ true) is-power (point-small i (passed i Admitted refl admitted .coordinates) x inside)))
+      (subst (λ (c : Float). smallPoint c (pointAt (i .points) x) ≡ true) is-power (point-small i (passed i admitted .coordinates-small) x inside)))
 
   -- as many faces as the input has
   faces-long : length (facesOf (facesIn i) (i .faces)) ≡ facesIn i
@@ -117,7 +110,7 @@ module _ (i : Input) (b : ℕ) (fits : b ≤ 20) (is-power : i .bound ≡ power 
   unfolding startOf started startMesh
   start-weighed =
       let faces = facesOf (facesIn i) (i .faces) in
-      let checked = passed i Admitted refl admitted in
+      let checked = passed i admitted in
       let vertex = startVertex (i .points) faces (pointsIn i) (i .options .preserve) in
       let long = length-each vertex (pointsIn i) in
       record {
@@ -126,6 +119,6 @@ module _ (i : Input) (b : ℕ) (fits : b ≤ 20) (is-power : i .bound ≡ power 
         parts = λ x x-v x-held.
             let inside : x < pointsIn i = rw long at x-v in
             rw (getD-each vertex (pointsIn i) x (rulesIn i .blank) inside)
-            (rw zero-add at (gathered-within (i .points) (pointsIn i) start-near x 0 zeroQuadric faces (admitted-proper i admitted)
+            (rw zero-add at (gathered-within (i .points) (pointsIn i) start-near x 0 zeroQuadric faces (checked .faces-proper)
             (omega (arith, count-most (holds x) faces, faces-long, checked .faces-most)) zero-within));
       }

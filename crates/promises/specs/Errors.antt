@@ -11,18 +11,11 @@ use Rattle.placement.specs.declared.pair.Vertex.{Vertex}
 use Rattle.placement.specs.Errors.{errorAt}
 use Rattle.placement.specs.Pairs.{pairQuadric, pairLength, pairCost}
 use Rattle.walk.specs.declared.Face.{Face}
-use Rattle.walk.specs.Faces.{holds, dataOf}
-use Rattle.meaning.specs.Input.{Input}
-use Rattle.meaning.specs.Outcome.{rulesIn}
-use Rattle.promises.specs.Finite.{stateAt}
+use Rattle.walk.specs.Faces.{holds}
 
 -- some live face holds a point
 abbrev pub held : List Face → ℕ → Type 0
 held faces x = 0 < count (holds x) faces
-
--- what a point carries after n steps
-abbrev pub carriedAt : Input → ℕ → ℕ → Vertex
-carriedAt i n x = dataOf (rulesIn i) (stateAt i n .mesh) x
 
 -- What is worked out for a pair is finite: its length, the errors at the three places of which one is taken where the solved point may not stand, and
 -- its cost.

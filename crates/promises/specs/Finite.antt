@@ -1,4 +1,4 @@
--- Coordinates that are finite and at most the bound in size, and the states in which they are asked for.
+-- Coordinates that are finite and at most the bound in size.
 use Prim.Native.Nat.{ℕ}
 use mathlib.Core.Path.{_≡_}
 use mathlib.Core.Bool.{Bool, true, false, not, _&&_}
@@ -8,10 +8,7 @@ use Rattle.lists.specs.Lists.{every}
 use Rattle.geometry.specs.declared.Point.{Point}
 use Rattle.placement.specs.declared.pair.Vertex.{Vertex}
 use Rattle.walk.specs.Faces.{Mesh}
-use Rattle.walk.specs.Walk.{walk, State, plainMachine}
-use Rattle.meaning.specs.Input.{Input}
 use Rattle.meaning.specs.Answers.{badCoordinate}
-use Rattle.meaning.specs.Outcome.{rulesIn, startOf, targetOf}
 
 -- a coordinate that 7 lets pass: finite, and at most the bound in size
 abbrev pub small : Float → Float → Bool
@@ -32,7 +29,3 @@ SmallMesh bound m = every (smallVertex bound) (m .points) ≡ true
 -- the bound 2^b
 abbrev pub power : ℕ → Float
 power b = fin false 1 (pos b)
-
--- the state after n steps of the walk of an input
-abbrev pub stateAt : Input → ℕ → State Vertex
-stateAt i n = walk (plainMachine (rulesIn i) (targetOf i)) n (startOf i)

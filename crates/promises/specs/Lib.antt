@@ -1,3 +1,6 @@
--- The words of the promises: what is small, and what is finite of a pair.
+-- Words that the promises are said in.
+pub mod Steps
+pub mod Fair
+pub mod Table
 pub mod Finite
 pub mod Errors

@@ -1,1 +1,1 @@
-// What follows from document 01's meaning for every admitted mesh: laws without code, in proofs/.
+// No code: proofs/ has what document 01 promises of every input, from the definitions of the crates that it names.

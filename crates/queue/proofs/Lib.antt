@@ -1,5 +1,4 @@
 -- Laws of the queue, leaves first.
-pub mod PartLaws
 pub mod HeapLaws
 pub mod SwapLaws
 pub mod RootLaws

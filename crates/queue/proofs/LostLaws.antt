@@ -14,7 +14,7 @@ use Rattle.lists.specs.Frames.{But}
 use Rattle.lists.proofs.SumLaws.{sum-append}
 use Rattle.lists.proofs.BagLaws.{bag-every, bag-map}
 use Rattle.lists.proofs.EveryLaws.{every-append, every-in, every-map}
-use Rattle.queue.proofs.PartLaws.{sum-failed, every-two}
+use Rattle.lists.proofs.PartLaws.{sum-failed, every-two}
 use Rattle.memory.specs.Entries.{queued}
 use Rattle.memory.specs.Layout.{keepStampsFrom, orderFrom}
 use Rattle.queue.specs.State.{isCurrent, isQueued, openIn}

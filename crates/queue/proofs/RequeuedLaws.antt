@@ -11,7 +11,7 @@ use Rattle.lists.proofs.SumLaws.{sum-append, sum-those}
 use Rattle.lists.proofs.BagLaws.{bag-refl, bag-trans, bag-append}
 use Rattle.lists.proofs.EveryLaws.{every-both, every-implies}
 use Rattle.queue.specs.Stored.{StoredEntry, isOld, Requeued}
-use Rattle.queue.proofs.PartLaws.{sum-failed, sum-passed, sum-parts}
+use Rattle.lists.proofs.PartLaws.{sum-failed, sum-passed, sum-parts}
 
 -- nothing is put in, and nothing goes
 pub requeued-none : (stamps : List ℕ) (entries : List StoredEntry) → Requeued stamps entries [] entries

@@ -21,7 +21,7 @@ use Rattle.queue.specs.State.{isCurrent, openIn}
 use Rattle.queue.specs.Contracts.Queued.{Queue, EntryNamed}
 use Rattle.queue.specs.Contracts.Changes.{CurrentFirst, ThrownOut}
 use Rattle.queue.specs.Contracts.Pushing.{RoomMade}
-use Rattle.queue.proofs.PartLaws.{bag-parts}
+use Rattle.lists.proofs.PartLaws.{bag-parts}
 use Rattle.queue.proofs.SwapLaws.{swapped, swapped-slots, swapped-sifted, sifted-none, sifted-then}
 use Rattle.queue.proofs.OrderLaws.{queued-length, queued-agree}
 use Rattle.queue.proofs.RootLaws.{queued-next}

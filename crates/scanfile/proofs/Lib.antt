@@ -5,3 +5,4 @@ pub mod ContentLaws
 pub mod GoodLaws
 pub mod PrefixLaws
 pub mod FileLaws
+pub mod Determined

@@ -4,12 +4,16 @@ pub mod RunLaws
 pub mod GoingLaws
 pub mod FaceLaws
 pub mod FoldLaws
+pub mod BorderLaws
 pub mod SamePairs
 pub mod PairLaws
 pub mod SoundLaws
 pub mod StepLaws
 pub mod WalkLaws
 pub mod GoneLaws
+pub mod EligibleLaws
+pub mod StillLaws
+pub mod FairLaws
 pub mod LeastLaws
 pub mod BagWalk
 pub mod OpenSums

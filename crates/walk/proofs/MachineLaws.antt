@@ -3,10 +3,11 @@
 use Prim.Native.Nat.{ℕ, zero, suc, _+_, _≤_, _<_}
 use mathlib.Core.Path.{_≡_, refl, sym, _∙_, ap, ap₂}
 use mathlib.Core.Logic.{_≢_, _⊎_, ⊎-elim}
-use mathlib.Core.List.{[], _++_, append-assoc, append-nil}
+use mathlib.Core.List.{[], _++_, append-assoc, append-nil, List·Memᴰ, List·Memᴰ·not-nil, List·Memᴰ·append-cases}
 use native.Mathlib.Nat.{zero-add, suc-add, le-refl, le-dest}
 use native.Mathlib.Omega.{arith}
 use lib.ListN.{length, length-append}
+use Rattle.walk.specs.declared.Pair.{Pair}
 use Rattle.walk.specs.Walk.{Machine, walk, foldList}
 
 -- the state after a step
@@ -61,6 +62,17 @@ module _ {S A : Type 0} (machine : Machine S A) where
   unfolding foldList
   foldList-last n s =
       foldList-add n 1 s ∙ ap (λ last. foldList machine n s ++ last) (append-nil (machine .foldOf (machine .answer (walk machine n s))))
+
+  -- a pair of the list was folded by the answer of some step
+  pub foldList-step : (n : ℕ) (s : S) (p : Pair) → List·Memᴰ p (foldList machine n s) →
+      (k : ℕ) × (k < n) × List·Memᴰ p (machine .foldOf (machine .answer (walk machine k s)))
+  unfolding walk foldList
+  foldList-step zero s p m = absurd (List·Memᴰ·not-nil m)
+  foldList-step (suc n) s p m =
+      ⊎-elim
+      (λ now. (0, omega arith, now))
+      (λ later. let (k, small, there) = foldList-step n (step machine s) p later in (suc k, omega arith, there))
+      (List·Memᴰ·append-cases (machine .foldOf (machine .answer s)) m)
 
   -- what every step keeps is kept by the walk
   pub walk-keeps : (P : S → Type 0) → ((s : S) → P s → P (step machine s)) → (n : ℕ) (s : S) → P s → P (walk machine n s)

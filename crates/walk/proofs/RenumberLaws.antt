@@ -9,9 +9,12 @@ use mathlib.Mathlib.Data.Bool.Basic.{and-elim-left, and-elim-right, and-intro, o
 use lib.Dec.{ltb, eqb}
 use lib.ListN.{length}
 use Rattle.walk.specs.declared.Face.{Face}
-use Rattle.lists.specs.Lists.{every}
+use Rattle.lists.specs.Lists.{every, some}
+use Rattle.walk.specs.Faces.{holds}
 use Rattle.walk.specs.Output.{noted, used, placeIn, renumbered}
-use Rattle.lists.proofs.EveryLaws.{some-append, map-same}
+use Rattle.lists.proofs.TestLaws.{both-true}
+use Rattle.lists.proofs.EveryLaws.{some-append, every-some, map-same}
+use Rattle.walk.proofs.FaceLaws.{at-corner}
 use Rattle.walk.proofs.PlaceLaws.{has, Once, place-append, once-none, once-length, noted-cases, noted-has, noted-keeps, noted-every, length-noted, once-noted}
 
 -- what holds of a list and is kept whenever a number is noted
@@ -67,6 +70,18 @@ used-has seen (f ∷ fs) =
     (has-used three fs (f .b) (noted-keeps two (f .c) (f .b) (noted-has one (f .b)))))
     (has-used three fs (f .c) (noted-has two (f .c))))
     (used-has three fs)
+
+-- so a point that some face holds is there
+pub used-held : (fs : List Face) (x : ℕ) → some (holds x) fs ≡ true → has (used [] fs) x ≡ true
+used-held fs x one =
+    let seen = used [] fs in
+    let (f, all, held) = every-some (corners (has seen)) (holds x) fs (used-has [] fs) one in
+    let ab = both-true (has seen (f .a) && has seen (f .b)) (has seen (f .c)) all in
+    let at = both-true (has seen (f .a)) (has seen (f .b)) (ab .0) in
+    at-corner x f held
+    (λ e. ap (has seen) e ∙ at .0)
+    (λ e. ap (has seen) e ∙ at .1)
+    (λ e. ap (has seen) e ∙ ab .1)
 
 -- what the numbers of the faces pass, the noted ones pass
 pub used-every : (test : ℕ → Bool) (seen : List ℕ) (fs : List Face) → every test seen ≡ true → every (corners test) fs ≡ true →

@@ -1,9 +1,9 @@
 -- One step: its answer's pair is an open one, the state after it is sound, the open pairs are few, and the budget falls.
 -- Assumes nothing.
 use Prim.Native.Nat.{ℕ, _+_, _*_, _≤_, _<_}
-use mathlib.Core.Path.{_≡_, refl, subst}
+use mathlib.Core.Path.{_≡_, refl, sym, ap, subst}
 use mathlib.Core.Logic.{_≢_}
-use mathlib.Core.List.{List, [], _∷_}
+use mathlib.Core.List.{List, [], _∷_, List·Memᴰ, List·Memᴰ·not-nil, List·Memᴰ·eq-of-singleton}
 use mathlib.Core.Bool.{Bool, true, false, cond}
 use native.Mathlib.Nat.{le-trans, mul-le-mul-right}
 use native.Mathlib.Omega.{arith}
@@ -16,7 +16,7 @@ use Rattle.lists.specs.Lists.{sum, count}
 use Rattle.walk.specs.Faces.{both, Rules, Mesh}
 use Rattle.walk.specs.Fold.{foldedFaces, foldedMesh}
 use Rattle.walk.specs.FoldTest.{allowed}
-use Rattle.walk.specs.Walk.{State, StepAnswer, folded, closed, ended, budget, tried, chosen, answer, after}
+use Rattle.walk.specs.Walk.{State, StepAnswer, folded, closed, ended, foldOf, budget, tried, chosen, answer, after}
 use Rattle.walk.specs.Pairs.{samePair, least}
 use Rattle.walk.specs.Sound.{Sound, joins, heldBy}
 use Rattle.lists.proofs.TestLaws.{by-test}
@@ -158,3 +158,10 @@ none-chosen rules m (x ∷ ps) e = absurd (never-tried (least rules m x ps) (all
 pub ended-open : {D : Type 0} (rules : Rules D) (target : ℕ) (s : State D) → answer rules target s ≡ ended → target < length (s .mesh .faces) → s .«open» ≡ []
 unfolding answer
 ended-open rules target s e above = none-chosen rules (s .mesh) (s .«open») (rw (lt-leb (length (s .mesh .faces)) target above) at e)
+
+-- a pair that an answer folded is the answer's
+pub fold-answer : (a : StepAnswer) (p : Pair) → List·Memᴰ p (foldOf a) → a ≡ folded p
+unfolding foldOf
+fold-answer (folded q) p m = ap folded (sym (List·Memᴰ·eq-of-singleton m))
+fold-answer (closed q) p m = absurd (List·Memᴰ·not-nil m)
+fold-answer ended p m = absurd (List·Memᴰ·not-nil m)

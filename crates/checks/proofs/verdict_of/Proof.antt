@@ -2,7 +2,8 @@
 -- Assumes nothing.
 use borrow.Author.Needs.{needs}
 use Rattle.meaning.specs.Answers.{verdictOf}
-use Rattle.checks.proofs.OrderLaws.{decides, goes-on, found-not, not-large}
+use Rattle.meaning.proofs.VerdictOrder.{decides, goes-on}
+use Rattle.checks.proofs.OrderLaws.{found-not, not-large}
 use Rattle.checks.proofs.verdict_of.Statement.{statement}
 use Rattle.checks.proofs.verdict_of.Tie as tie
 

@@ -1,0 +1,36 @@
+-- The statements of the C functions are tight: any two outcomes that one of them allows coincide, in the answer, in every lent cell and in the fold list.
+-- Assumes nothing.
+use Prim.Native.Nat.{ℕ}
+use mathlib.Core.Path.{_≡_, sym, _∙_}
+use mathlib.Core.List.{List}
+use lib.IntN.{ℤ}
+use Rattle.bits.specs.Root.{rootBits}
+use Rattle.bits.specs.Narrow.{narrowBits}
+use Rattle.bits.specs.Order.{orderKey}
+use Rattle.meaning.specs.Input.{Input}
+use Rattle.meaning.specs.Call.{Lent}
+use Rattle.meaning.proofs.Determined.{determined-answer, determined}
+use Rattle.hjoltravan.specs.Calls.{Called, CalledWithFolds}
+
+-- hjoltravan_thin and hjoltravan_thin_plain: the lent buffers and the five cells
+pub called-determined : (i : Input) {before after₁ after₂ : Lent} {five₁ five₂ : List ℕ} →
+    Called i before after₁ five₁ → Called i before after₂ five₂ → (after₁ ≡ after₂) × (five₁ ≡ five₂)
+called-determined i a b = (determined-answer i (a .left) (b .left) .0, a .told ∙ sym (b .told))
+
+-- hjoltravan_thin_folds: the fold list too
+pub called-with-folds-determined : (i : Input) {before after₁ after₂ : Lent} {folds folds₁ folds₂ five₁ five₂ : List ℕ} →
+    CalledWithFolds i before after₁ folds folds₁ five₁ → CalledWithFolds i before after₂ folds folds₂ five₂ →
+    (after₁ ≡ after₂) × (folds₁ ≡ folds₂) × (five₁ ≡ five₂)
+called-with-folds-determined i a b =
+    let same = determined i (a .left) (b .left) in
+    (same .0, same .2, a .told ∙ sym (b .told))
+
+-- hjoltravan_root, hjoltravan_narrow and hjoltravan_order
+pub root-determined : (bits : ℕ) {r₁ r₂ : ℕ} → r₁ ≡ rootBits bits → r₂ ≡ rootBits bits → r₁ ≡ r₂
+root-determined bits a b = a ∙ sym b
+
+pub narrow-determined : (bits : ℕ) {r₁ r₂ : ℕ} → r₁ ≡ narrowBits bits → r₂ ≡ narrowBits bits → r₁ ≡ r₂
+narrow-determined bits a b = a ∙ sym b
+
+pub order-determined : (bits : ℕ) {r₁ r₂ : ℤ} → r₁ ≡ orderKey bits → r₂ ≡ orderKey bits → r₁ ≡ r₂
+order-determined bits a b = a ∙ sym b

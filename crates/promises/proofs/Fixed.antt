@@ -1,0 +1,113 @@
+-- A fixed point never moves: it is in no fold, carries after every step what it carried at the start, and is written with its input bits.
+-- Assumes nothing.
+use Prim.Native.Nat.{ℕ, _<_}
+use native.Mathlib.Omega.{arith}
+use mathlib.Core.Path.{_≡_, ap, _∙_}
+use mathlib.Core.Logic.{_≢_}
+use mathlib.Core.List.{[]}
+use mathlib.Core.Bool.{Bool, true, false, _&&_, cond}
+use mathlib.Mathlib.Data.Bool.Basic.{and-elim-right}
+use lib.Dec.{ltb}
+use Rattle.lists.specs.Lists.{some}
+use Rattle.lists.proofs.TestLaws.{by-test}
+use Rattle.lists.proofs.BelowLaws.{getD-each}
+use Rattle.placement.specs.declared.Kind.the-variants.{Free, Border}
+use Rattle.placement.specs.declared.pair.Vertex.{Vertex}
+use Rattle.placement.specs.Choices.{fixed}
+use Rattle.walk.specs.declared.Pair.{Pair}
+use Rattle.walk.specs.Faces.{holds, borderPoint, dataOf}
+use Rattle.walk.specs.Walk.{walk, started, folded}
+use Rattle.walk.specs.Output.{used, placeIn}
+use Rattle.walk.proofs.BorderLaws.{border-below}
+use Rattle.walk.proofs.StepLaws.{answer-folded}
+use Rattle.walk.proofs.StillLaws.{held-apart, walk-still}
+use Rattle.walk.proofs.PlaceLaws.{place-below, getD-place}
+use Rattle.walk.proofs.RenumberLaws.{used-held}
+use Rattle.meaning.specs.declared.Verdict.the-variants.{Admitted}
+use Rattle.meaning.specs.Input.{Input, pointsIn, pointAt}
+use Rattle.meaning.specs.Answers.{verdictOf}
+use Rattle.meaning.specs.Arithmetic.{rulesOf}
+use Rattle.meaning.specs.Start.{startVertex, startMesh}
+use Rattle.meaning.specs.Outcome.{rulesIn, startOf, targetOf, lastMesh, stuck, bordersHeld, stuckAnswer, thinnedOutcome, Outcome, outcome, outcomeBy}
+use Rattle.meaning.proofs.PartsLaws.{parts-at}
+use Rattle.promises.specs.Steps.{stateAt, answerAt, budgetOf, carried, givenFaces, fixedPoint}
+use Rattle.promises.proofs.Admitted.{passed}
+use Rattle.promises.proofs.Eligible.{eligible-fit, open-eligible}
+
+-- ---- an answer of 0
+
+-- where the answer is 0, the outcome is the thinned mesh
+stuck-not : (borders : ℕ) → stuckAnswer borders .number ≡ 0 → ⊥
+stuck-not borders e = by-test (ltb 0 borders) (λ t. omega (arith, rw t at e)) (λ t. omega (arith, rw t at e))
+
+pub thinned-is : (i : Input) → verdictOf i ≡ Admitted → outcome i .answer .number ≡ 0 → outcome i ≡ thinnedOutcome i
+unfolding outcome outcomeBy
+thinned-is i admitted done =
+    by-test (stuck i)
+    (λ t. absurd (stuck-not (bordersHeld i) (rw (admitted, t) at done)))
+    (λ t. rw (admitted, t))
+
+-- ---- the start
+
+-- what the point x carries at the start
+abbrev startOfPoint : Input → ℕ → Vertex
+startOfPoint i x = startVertex (i .points) (givenFaces i) (pointsIn i) (i .options .preserve) x
+
+pub start-carried : (i : Input) (x : ℕ) → x < pointsIn i → dataOf (rulesIn i) (startOf i .mesh) x ≡ startOfPoint i x
+unfolding startOf started startMesh
+start-carried i x small = getD-each (startOfPoint i) (pointsIn i) x (rulesIn i .blank) small
+
+-- the kind of a point that is fixed at the start
+kind-fixed : (preserve border : Bool) → (preserve && border) ≡ true → fixed (cond (preserve && border) Border Free) ≡ true
+kind-fixed preserve border e = rw e
+
+module _ (i : Input) (admitted : verdictOf i ≡ Admitted) (x : ℕ) (is-fixed : fixedPoint i x ≡ true) where
+  pub fixed-below : x < pointsIn i
+  fixed-below =
+      border-below (pointsIn i) (givenFaces i) x (passed i admitted .faces-proper)
+      (and-elim-right (i .options .preserve) (borderPoint (pointsIn i) (givenFaces i) x) is-fixed)
+
+  -- no eligible pair has it
+  never : (keep remove : Vertex) → rulesIn i .eligible keep remove ≡ true → (fixed (keep .kind) ≡ false) × (fixed (remove .kind) ≡ false)
+  unfolding rulesOf
+  never keep remove e = let fit = eligible-fit (i .options .limit) (i .bound) keep remove e in (fit .keep-free, fit .remove-free)
+
+  held-first : fixed (dataOf (rulesIn i) (startOf i .mesh) x .kind) ≡ true
+  held-first =
+      ap (λ (d : Vertex). fixed (d .kind)) (start-carried i x fixed-below)
+      ∙ kind-fixed (i .options .preserve) (borderPoint (pointsIn i) (givenFaces i) x) is-fixed
+
+  -- ---- every step
+
+  -- after any number of steps it carries what it carried at the start: its input point, its quadric, and that it is fixed
+  pub fixed-never-moves : (n : ℕ) → carried i n x ≡ startVertex (i .points) (givenFaces i) (pointsIn i) (i .options .preserve) x
+  unfolding walk
+  fixed-never-moves n =
+      walk-still (rulesIn i) (λ d. fixed (d .kind)) never (targetOf i) n (startOf i) (open-eligible i 0) x held-first
+      ∙ start-carried i x fixed-below
+
+  pub fixed-point-same : (n : ℕ) → carried i n x .point ≡ pointAt (i .points) x
+  fixed-point-same n = ap (λ (d : Vertex). d .point) (fixed-never-moves n)
+
+  -- no fold keeps it and no fold removes it
+  pub fixed-never-folded : (n : ℕ) (p : Pair) → answerAt i n ≡ folded p → (p .keep ≢ x) × (p .remove ≢ x)
+  fixed-never-folded n p e =
+      held-apart (rulesIn i) (λ d. fixed (d .kind)) never (stateAt i n) (open-eligible i n) x
+      (ap (λ (d : Vertex). fixed (d .kind)) (fixed-never-moves n)
+      ∙ kind-fixed (i .options .preserve) (borderPoint (pointsIn i) (givenFaces i) x) is-fixed)
+      p (answer-folded (rulesIn i) (targetOf i) (stateAt i n) p e .0)
+
+  -- ---- the output
+
+  -- the point that is written for its new number has its input bits, where some face that is left holds it
+  pub fixed-written :
+      outcome i .answer .number ≡ 0 → some (holds x) (lastMesh i .faces) ≡ true
+      → pointAt (outcome i .points) (placeIn (used [] (lastMesh i .faces)) x) ≡ pointAt (i .points) x
+  unfolding lastMesh
+  fixed-written done there =
+      let seen = used [] (lastMesh i .faces) in
+      let here = used-held (lastMesh i .faces) x there in
+      ap (λ (o : Outcome). pointAt (o .points) (placeIn seen x)) (thinned-is i admitted done)
+      ∙ parts-at (rulesIn i) (lastMesh i) seen (placeIn seen x) (place-below seen x here)
+      ∙ ap (λ (y : ℕ). dataOf (rulesIn i) (lastMesh i) y .point) (getD-place 0 seen x here)
+      ∙ fixed-point-same (budgetOf i)

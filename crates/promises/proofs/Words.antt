@@ -1,0 +1,132 @@
+-- The tests that the verdict is made of say the words of document 01's table.
+-- Assumes nothing.
+use Prim.Native.Nat.{ℕ, _+_, _*_, _%_}
+use mathlib.Core.Path.{_≡_, refl, sym, ap, _∙_}
+use mathlib.Core.Bool.{Bool, true, false, not, _&&_, _||_, or-assoc, false≢true}
+use lib.Dec.{ltb, eqb}
+use lib.ListN.{length, getD}
+use lib.Ieee.{Float, nan, inf, fin, isNan, lt, le, eq, neg, ofBits}
+use lib.Ieee.Scale.{finite}
+use Rattle.bits.specs.Cut.{zeroFloat, oneFloat}
+use Rattle.bits.proofs.FloatOrder.{le-total}
+use Rattle.placement.specs.declared.Limit.{Limit}
+use Rattle.placement.specs.declared.Limit.the-variants.{Unlimited, AtMost}
+use Rattle.walk.specs.Faces.{faceAt}
+use Rattle.meaning.specs.Input.{Input, pointsIn, facesIn}
+use Rattle.meaning.specs.Answers.{uneven, large, short, empty, badRatio, badLimit, badCoordinate, outside, doubled}
+use Rattle.meaning.specs.Call.{coordinateBound}
+use Rattle.promises.specs.Table.{Uneven, Large, Short, Empty, BadRatio, BadLimit, BadCoordinate, Outside, Doubled, BadFace, RatioZero}
+use Rattle.promises.proofs.Says.{Says, says-same, says-itself, says-not, says-below, says-least, says-equal, says-differ, says-or, says-not-both}
+
+-- ---- 1 to 4
+
+pub says-uneven : (i : Input) → Says (Uneven i) (uneven (length (i .points)) (length (i .faces)))
+says-uneven i = says-or (says-differ (length (i .points) % 3) 0) (says-differ (length (i .faces) % 3) 0)
+
+pub says-large : (i : Input) → Says (Large i) (large (pointsIn i) (facesIn i))
+says-large i = says-or (says-below 65536 (pointsIn i)) (says-below 131072 (facesIn i))
+
+five : (a b c d e : Bool) → (a || b || c || d || e) ≡ (a || (b || (c || (d || e))))
+five true b c d e = refl
+five false true c d e = refl
+five false false true d e = refl
+five false false false d e = refl
+
+pub says-short : (i : Input) → Says (Short i) (short (pointsIn i) (facesIn i) (i .rooms))
+says-short i =
+    let v = pointsIn i in
+    let f = facesIn i in
+    says-same
+    (says-or (says-below (i .rooms .points) (3 * v))
+    (says-or (says-below (i .rooms .faces) (3 * f))
+    (says-or (says-below (i .rooms .u32s) (16 * v + 32 * f))
+    (says-or (says-below (i .rooms .f32s) (4 * v + 12 * f))
+    (says-below (i .rooms .f64s) (16 * v + 6 * f))))))
+    (five (ltb (i .rooms .points) (3 * v)) (ltb (i .rooms .faces) (3 * f)) (ltb (i .rooms .u32s) (16 * v + 32 * f))
+    (ltb (i .rooms .f32s) (4 * v + 12 * f)) (ltb (i .rooms .f64s) (16 * v + 6 * f)))
+
+pub says-empty : (i : Input) → Says (Empty i) (empty (pointsIn i) (facesIn i))
+says-empty i = says-or (says-equal (pointsIn i) 0) (says-equal (facesIn i) 0)
+
+-- ---- 5 to 7: floats
+
+-- not at most and not at least is above or below
+outside-or : (a b : Bool) → not (not a && not b) ≡ (a || b)
+outside-or true b = refl
+outside-or false true = refl
+outside-or false false = refl
+
+ratio-is : (r : Float) → badRatio r ≡ (isNan r || (lt r zeroFloat || lt oneFloat r))
+unfolding isNan le lt eq
+ratio-is nan = refl
+ratio-is (inf true) = refl
+ratio-is (inf false) = refl
+ratio-is (fin s m e) =
+    rw (le-total zeroFloat (fin s m e) refl refl, le-total (fin s m e) oneFloat refl refl)
+    (outside-or (lt (fin s m e) zeroFloat) (lt oneFloat (fin s m e)))
+
+pub says-ratio : (i : Input) → Says (BadRatio i) (badRatio (i .options .ratio))
+says-ratio i =
+    let r = i .options .ratio in
+    says-same (says-or (says-itself (isNan r)) (says-or (says-itself (lt r zeroFloat)) (says-itself (lt oneFloat r)))) (ratio-is r)
+
+says-limit-is : (limit : Limit) → Says ((most : Float) × (limit ≡ AtMost most) × (isNan most ≡ true)) (badLimit limit)
+says-limit-is Unlimited = record { holds = λ t. absurd (false≢true t); passes = λ p. let (most, e, n) = p in absurd (false≢true (ap isLimited e)) }
+  where
+    isLimited : Limit → Bool
+    isLimited Unlimited = false
+    isLimited (AtMost most) = true
+says-limit-is (AtMost most) = record { holds = λ t. (most, refl, t); passes = λ p. let (other, e, n) = p in ap badLimit e ∙ n }
+
+pub says-limit : (i : Input) → Says (BadLimit i) (badLimit (i .options .limit))
+says-limit i = says-limit-is (i .options .limit)
+
+coordinate-is : (bound x : Float) → isNan bound ≡ false → badCoordinate bound x ≡ (not (finite x) || (lt bound x || lt x (neg bound)))
+unfolding isNan neg
+coordinate-is bound nan p = refl
+coordinate-is bound (inf s) p = refl
+coordinate-is nan (fin s m e) p = absurd (false≢true (sym p))
+coordinate-is (inf t) (fin s m e) p =
+    rw (le-total (fin s m e) (inf t) refl refl, le-total (inf (not t)) (fin s m e) refl refl)
+    (outside-or (lt (inf t) (fin s m e)) (lt (fin s m e) (inf (not t))))
+coordinate-is (fin t n d) (fin s m e) p =
+    rw (le-total (fin s m e) (fin t n d) refl refl, le-total (fin (not t) n d) (fin s m e) refl refl)
+    (outside-or (lt (fin t n d) (fin s m e)) (lt (fin s m e) (fin (not t) n d)))
+
+bound-is-number : isNan coordinateBound ≡ false
+unfolding isNan ofBits
+bound-is-number = refl
+
+pub says-coordinate : (i : Input) (k : ℕ) → Says (BadCoordinate i k) (badCoordinate coordinateBound (getD (i .points) k nan))
+says-coordinate i k =
+    let x = getD (i .points) k nan in
+    says-same (says-or (says-not (finite x)) (says-or (says-itself (lt coordinateBound x)) (says-itself (lt x (neg coordinateBound)))))
+    (coordinate-is coordinateBound x bound-is-number)
+
+pub says-zero : (i : Input) → Says (RatioZero i) (eq (i .options .ratio) zeroFloat)
+says-zero i = says-itself (eq (i .options .ratio) zeroFloat)
+
+-- ---- 8 and 9
+
+three-and : (a b c : Bool) → not (a && b && c) ≡ not (a && (b && c))
+three-and true b c = refl
+three-and false b c = refl
+
+pub says-outside : (i : Input) (k : ℕ) → Says (Outside i k) (outside (pointsIn i) (faceAt (i .faces) k))
+says-outside i k =
+    let v = pointsIn i in
+    let f = faceAt (i .faces) k in
+    says-same
+    (says-not-both (ltb (f .a) v) (ltb (f .b) v && ltb (f .c) v) (says-least (f .a) v)
+    (says-not-both (ltb (f .b) v) (ltb (f .c) v) (says-least (f .b) v) (says-least (f .c) v)))
+    (three-and (ltb (f .a) v) (ltb (f .b) v) (ltb (f .c) v))
+
+pub says-doubled : (i : Input) (k : ℕ) → Says (Doubled i k) (doubled (faceAt (i .faces) k))
+says-doubled i k =
+    let f = faceAt (i .faces) k in
+    says-same
+    (says-or (says-equal (f .a) (f .b)) (says-or (says-equal (f .b) (f .c)) (says-equal (f .c) (f .a))))
+    (or-assoc (eqb (f .a) (f .b)) (eqb (f .b) (f .c)) (eqb (f .c) (f .a)))
+
+pub says-bad-face : (i : Input) (k : ℕ) → Says (BadFace i k) (outside (pointsIn i) (faceAt (i .faces) k) || doubled (faceAt (i .faces) k))
+says-bad-face i k = says-or (says-outside i k) (says-doubled i k)
