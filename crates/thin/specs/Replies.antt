@@ -82,10 +82,13 @@ pub record Shown (r : Answer) (points : List Float) (faces : List ℕ) : Type 0 
   pub points-most : length points ≤ 384
   pub faces-most : length faces ≤ 768
 
--- no more bytes were read than there are
+-- how many bytes were read
 abbrev pub sizeGot : Got → ℕ
 sizeGot (got.Bytes n) = n
 sizeGot got.Failed = 0
 
-pub record Held (r : Got) (input : List ℕ) : Type 0 where
-  pub within : sizeGot r ≤ length input
+-- No more bytes were read than there is room for, and there is as much room as before. Which bytes they are hangs on what `read` of the C library does, whose
+-- contract says nothing of them.
+pub record Held (r : Got) (old new : List ℕ) : Type 0 where
+  pub within : sizeGot r ≤ length new
+  pub same-length : length new ≡ length old

@@ -185,7 +185,7 @@ enum Got {
 
 // Reads standard input to its end, or until the buffer is full.
 fn read_input(input: &mut [u8]) -> Got
-    ensures { λ r. ⌜ Held r (now (input .exit)) ⌝ }
+    ensures { λ r. ⌜ Held r (now (input .entry)) (now (input .exit)) ⌝ }
 {
     let mut at = 0;
     while at < input.len() {
