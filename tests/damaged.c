@@ -10,7 +10,7 @@
 #include <unistd.h>
 
 /* 0, or 21 to 27. The cells: unit, preserve, limited, limit, ratio, points, faces, place; the floats as the file has them. */
-uint32_t hjoltravan_scan(const uint8_t *bytes, size_t length, uint32_t cells[8]);
+uint32_t tell_scan(const uint8_t *bytes, size_t length, uint32_t cells[8]);
 
 enum { UNIT, PRESERVE, LIMITED, LIMIT, RATIO, POINTS, FACES, PLACE, CELLS, NUMBER = CELLS };
 enum { MOST = 4638, ROOM = 8192 };
@@ -113,7 +113,7 @@ static void compare(const uint8_t *file, size_t length)
     uint8_t *bytes = edge - length;
     memcpy(bytes, file, length);
     memset(ours, 0xa5, sizeof ours);
-    ours[NUMBER] = hjoltravan_scan(bytes, length, ours);
+    ours[NUMBER] = tell_scan(bytes, length, ours);
     read_again(bytes, length, theirs);
     if (memcmp(ours, theirs, sizeof ours) || memcmp(bytes, file, length)) {
         if (!differ++)

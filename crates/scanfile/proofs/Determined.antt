@@ -23,7 +23,7 @@ pub faces-determined : (bytes : List ℕ) (points faces : ℕ) (out : List ℕ) 
     out₁ ≡ overlaid (faceNumbersOf bytes points faces) out → out₂ ≡ overlaid (faceNumbersOf bytes points faces) out → out₁ ≡ out₂
 faces-determined bytes points faces out a b = a ∙ sym b
 
--- hjoltravan_scan: the number and the eight cells
+-- tell_scan: the number and the eight cells
 pub told-determined : (bytes : List ℕ) {r₁ r₂ : ℕ} {cells₁ cells₂ : List ℕ} →
     (r₁ ≡ numberOf (scanOf bytes)) × (cells₁ ≡ cellsOf bytes (scanOf bytes)) →
     (r₂ ≡ numberOf (scanOf bytes)) × (cells₂ ≡ cellsOf bytes (scanOf bytes)) → (r₁ ≡ r₂) × (cells₁ ≡ cells₂)

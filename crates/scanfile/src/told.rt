@@ -63,7 +63,7 @@ fn tell_good(bytes: &[u8], h: Head, cells: &mut [u32; 8])
 
 // What a file is: the number, with the cells unit, preserve, limited, limit, ratio, points, faces and place.
 #[no_mangle]
-pub extern "C" fn hjoltravan_scan(bytes: &[u8], cells: &mut [u32; 8]) -> u32
+pub extern "C" fn tell_scan(bytes: &[u8], cells: &mut [u32; 8]) -> u32
     ensures number { λ r. ⌜ r ≡ numberOf (scanOf (now (bytes .entry))) ⌝ }
     ensures cells { λ _. ⌜ now (cells .exit) ≡ cellsOf (now (bytes .entry)) (scanOf (now (bytes .entry))) ⌝ }
 {

@@ -1,4 +1,4 @@
--- `scanfile::told::hjoltravan_scan` meets its contract, by cases on what the reader answers.
+-- `scanfile::told::tell_scan` meets its contract, by cases on what the reader answers.
 -- Assumes nothing.
 use native.Mathlib.Omega.{arith}
 use mathlib.Core.Path.{_≡_, sym, ap, _∙_}
@@ -7,8 +7,8 @@ use Rattle.scanfile.specs.Scans.{scanOf}
 use Rattle.scanfile.specs.Told.{numberOf, cellsOf}
 use Rattle.scanfile.proofs.GoodLaws.{good-file}
 use borrow.Author.Needs.{needs}
-use Rattle.scanfile.proofs.told.hjoltravan_scan.Statement.{statement}
-use Rattle.scanfile.proofs.told.hjoltravan_scan.Tie as tie
+use Rattle.scanfile.proofs.told.tell_scan.Statement.{statement}
+use Rattle.scanfile.proofs.told.tell_scan.Tie as tie
 
 -- ---- the answer of the reader, in each case
 
@@ -34,8 +34,8 @@ returns-2 c =
     let e = is-bad (c .before .before) in
     (ap numberOf e, ap (cellsOf _) e)
 
-pub hjoltravan-scan-spec : {M : Type 1} → statement M
-hjoltravan-scan-spec =
+pub tell-scan-spec : {M : Type 1} → statement M
+tell-scan-spec =
     tie.close
     (tie.spec
     (λ c κs. search needs)
