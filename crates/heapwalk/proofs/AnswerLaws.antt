@@ -43,7 +43,8 @@ use Rattle.walk.proofs.StateLaws.{same-refl, sound-bag}
 use Rattle.plainwalk.specs.Steps.{StepWithin}
 use Rattle.plainwalk.proofs.MemoryLaws.{within-refl, within-but}
 use Rattle.memory.proofs.MeshLaws.{mesh-but}
-use Rattle.heapwalk.specs.Steps.{pairState, HeapHolds, TopHolds, PairHolds, PairAnswer, TopTried, QueueStep, HeapStepDone}
+use Rattle.heapwalk.specs.Steps.{HeapHolds, QueueStep, HeapStepDone}
+use Rattle.heapwalk.specs.Contracts.Trying.{pairState, TopHolds, PairHolds, PairAnswer, TopTried}
 use Rattle.queue.proofs.MovedLaws.{moved-but, kept-moved}
 use Rattle.heapwalk.proofs.MemoryLaws.{answer-before, pair-state-but}
 use Rattle.memory.specs.Layout.{nearFrom, orderFrom, stampsFrom}

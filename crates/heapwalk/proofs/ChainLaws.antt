@@ -1,9 +1,9 @@
 -- The heap walk's chain: it grows at its end, it goes the way of the plain walk, and so its end is the plain walk's.
 -- Assumes nothing.
-use Prim.Native.Nat.{ℕ, suc, _+_, _<_}
+use Prim.Native.Nat.{ℕ, suc, _+_}
 use native.Mathlib.Nat.{add-assoc, add-zero, zero-add}
 use native.Mathlib.Omega.{arith}
-use mathlib.Core.Path.{_≡_, refl, sym, ap, ap₂, subst, _∙_}
+use mathlib.Core.Path.{_≡_, refl, sym, ap, subst, _∙_}
 use mathlib.Core.List.{List, [], _∷_, _++_, append-assoc, append-nil}
 use lib.Ieee.{Float}
 use lib.ListN.{length, length-append}
@@ -16,12 +16,12 @@ use Rattle.plainwalk.specs.declared.Step.{Step}
 use Rattle.plainwalk.specs.declared.Step.the-variants.{Folded, Closed, Ended}
 use Rattle.plainwalk.specs.declared.Walked.{Walked}
 use Rattle.plainwalk.specs.Steps.{answerOf}
-use Rattle.plainwalk.specs.Moments.{Moment, moment, noted}
+use Rattle.plainwalk.specs.Moments.{Moment, noted}
 use Rattle.plainwalk.specs.Whole.{WalkedFrom}
 use Rattle.plainwalk.proofs.LentLaws.{Walking, walking-start, room-folded, turn-folded, turn-closed, walking-end}
 use Rattle.plainwalk.proofs.NoteLaws.{folds-length, folds-same, folds-more}
 use Rattle.queue.specs.State.{heapState}
-use Rattle.heapwalk.specs.Chain.{foldsTold, notedStep, HeldAt, StepAt, Link, Chain, ChainFrom}
+use Rattle.heapwalk.specs.Chain.{foldsTold, HeldAt, StepAt, Link, Chain, ChainFrom}
 use Rattle.heapwalk.proofs.HoldLaws.{byHeap, heap-step}
 
 -- one answer more is told at the end

@@ -45,7 +45,7 @@ use Rattle.plainwalk.specs.Steps.{StepWithin}
 use Rattle.plainwalk.proofs.MemoryLaws.{within-then}
 use Rattle.lists.proofs.DropLaws.{rest-more, past-drop}
 use Rattle.walk.proofs.PairLaws.{touches, spared-apart, without-self}
-use Rattle.heapwalk.specs.Steps.{pairState, PairHolds, PairAnswer}
+use Rattle.heapwalk.specs.Contracts.Trying.{pairState, PairHolds, PairAnswer}
 use Rattle.queue.proofs.MovedLaws.{Moved, queue-moved, fewer-moved, open-moved, kept-moved}
 use Rattle.heapwalk.proofs.MemoryLaws.{mesh-floats, pair-open, pair-points, pair-differ, pair-shared}
 use Rattle.heapwalk.proofs.StampLaws.{bumped, first-room, first-stamp, both-but, both-stamps}

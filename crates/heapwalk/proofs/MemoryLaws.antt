@@ -32,7 +32,8 @@ use Rattle.plainwalk.specs.declared.Stepped.{Stepped}
 use Rattle.walk.proofs.StateLaws.{same-trans}
 use Rattle.plainwalk.specs.Steps.{StepWithin}
 use Rattle.plainwalk.proofs.MemoryLaws.{within-then}
-use Rattle.heapwalk.specs.Steps.{pairState, PairHolds, HeapAnswer}
+use Rattle.heapwalk.specs.Steps.{HeapAnswer}
+use Rattle.heapwalk.specs.Contracts.Trying.{pairState, PairHolds}
 use Rattle.heapwalk.proofs.QueueFrames.{open-lists, held-lists}
 use Rattle.memory.specs.Layout.{nearFrom, orderFrom, stampsFrom}
 

@@ -48,7 +48,8 @@ use Rattle.plainwalk.specs.Steps.{answerOf}
 use Rattle.heapwalk.specs.Entries.{newEntries, raises}
 use Rattle.walk.proofs.StateLaws.{sound-bag}
 use Rattle.plainwalk.proofs.MemoryLaws.{within-but}
-use Rattle.heapwalk.specs.Steps.{pairState, topState, HeapHolds, TopHolds, TopTried, StampsRaised, PairTaken, QueueStep, HeapStepDone}
+use Rattle.heapwalk.specs.Steps.{HeapHolds, StampsRaised, PairTaken, QueueStep, HeapStepDone}
+use Rattle.heapwalk.specs.Contracts.Trying.{pairState, topState, TopHolds, TopTried}
 use Rattle.lists.proofs.BelowLaws.{every-below}
 use Rattle.queue.proofs.OrderLaws.{place-queued}
 use Rattle.queue.proofs.MovedLaws.{Moved, moved-but, kept-moved}

@@ -21,7 +21,7 @@ use Rattle.folding.specs.Contracts.Folds.{FoldTried}
 use Rattle.plainwalk.specs.declared.Step.the-variants.{Folded, Closed}
 use Rattle.queue.specs.State.{openIn}
 use Rattle.heapwalk.specs.Contracts.Entering.{Open, Entered}
-use Rattle.heapwalk.specs.Steps.{PairHolds, PairAnswer}
+use Rattle.heapwalk.specs.Contracts.Trying.{PairHolds, PairAnswer}
 use Rattle.heapwalk.proofs.StampLaws.{bumped}
 use Rattle.heapwalk.proofs.MemoryLaws.{pair-but}
 use Rattle.heapwalk.proofs.AnswerLaws.{closed-done, tried-by, tried-before}

@@ -1,3 +1,4 @@
--- What opening pairs into the queue asks and leaves.
+-- What the inner functions of the heap walk ask and leave.
 pub mod Entering
 pub mod Listing
+pub mod Trying

@@ -9,7 +9,8 @@ ghost use Rattle.mesh.specs.Contracts.Chains.{Tidy};
 ghost use Rattle.memory.specs.Points.{meshOf};
 ghost use Rattle.meaning.specs.Arithmetic.{rulesOf};
 ghost use Rattle.plainwalk.specs.Moments.{moment};
-ghost use Rattle.heapwalk.specs.Steps.{PairHolds, PairAnswer, HeapHolds, TopHolds, TopTried, HeapStepDone};
+ghost use Rattle.heapwalk.specs.Steps.{HeapHolds, HeapStepDone};
+ghost use Rattle.heapwalk.specs.Contracts.Trying.{PairHolds, PairAnswer, TopHolds, TopTried};
 ghost use Rattle.heapwalk.specs.Chain.{ChainFrom, HeapWalked};
 ghost use Rattle.memory.specs.Layout.{costsTo, placesTo};
 

@@ -1,12 +1,11 @@
 -- Every coordinate of every point is finite and at most the bound in size: at the start, after each step of the walk, and in what comes out, removed
 -- points included. The bound is a power of two up to 2^126; document 01's is 2^20 (`document-bound`). Assumes nothing.
-use Prim.Native.Nat.{ℕ, zero, suc, _+_, _*_, _≤_, _<_}
+use Prim.Native.Nat.{ℕ, _+_, _*_, _≤_, _<_}
 use native.Mathlib.Omega.{arith}
 use mathlib.Core.Path.{_≡_, refl}
 use mathlib.Core.List.{List, [], _∷_}
-use mathlib.Core.Bool.{Bool, true, _&&_}
+use mathlib.Core.Bool.{true, _&&_}
 use mathlib.Mathlib.Data.Bool.Basic.{and-elim-left, and-elim-right}
-use lib.ListN.{getD, set}
 use lib.Ieee.{Float, nan, ofBits}
 use Rattle.lists.specs.Lists.{every}
 use Rattle.lists.proofs.TestLaws.{by-test}

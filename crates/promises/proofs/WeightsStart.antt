@@ -3,7 +3,7 @@
 use Prim.Native.Nat.{ℕ, _+_, _*_, _^_, _≤_, _<_}
 use native.Mathlib.Nat.{le-trans, le-of-eq, add-assoc, add-zero, zero-add}
 use native.Mathlib.Omega.{arith}
-use mathlib.Core.Path.{_≡_, refl, subst}
+use mathlib.Core.Path.{_≡_, subst}
 use mathlib.Core.List.{List, [], _∷_}
 use mathlib.Core.Bool.{Bool, true, false, _||_, cond}
 use lib.Dec.{ltb, eqb}
@@ -19,9 +19,7 @@ use Rattle.geometry.specs.Quadrics.{zeroQuadric}
 use Rattle.walk.specs.declared.Face.{Face}
 use Rattle.walk.specs.Faces.{holds, proper, faceAt, facesOf}
 use Rattle.walk.specs.Walk.{started}
-use Rattle.walk.specs.Sound.{Sound}
 use Rattle.walk.proofs.FaceLaws.{corners}
-use Rattle.walk.proofs.SoundLaws.{started-sound}
 use Rattle.meaning.specs.declared.Verdict.the-variants.{Admitted}
 use Rattle.meaning.specs.Input.{Input, pointsIn, facesIn, pointAt}
 use Rattle.meaning.specs.Start.{faceQuadric, gathered, startVertex, startMesh}

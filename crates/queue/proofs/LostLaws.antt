@@ -54,7 +54,6 @@ module _ {v f : ℕ} {w : List ℕ} {n : ℕ} {lost : List ℕ} {w' : List ℕ} 
           open-sum v f w n g,
         )
 
-
 -- the entries are fewer by the lost ones
 pub lost-entries : {v f : ℕ} {w : List ℕ} {n : ℕ} {lost : List ℕ} {w' : List ℕ} {n' : ℕ} (p : List Float) {q : List Float} → Lost v f w n lost w' n' →
     Queue v f w' q n' → But (orderFrom v f) (keepStampsFrom v f) w w' → SameBag (entriesIn v f w p q n) (map (entryIn v f w p q) lost ++ entriesIn v f w' p q n')

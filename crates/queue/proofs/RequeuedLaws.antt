@@ -5,7 +5,7 @@ use native.Mathlib.Omega.{arith}
 use native.Mathlib.Nat.{add-zero}
 use mathlib.Core.Path.{_≡_, refl, sym, ap, ap₂, _∙_}
 use mathlib.Core.List.{List, [], _++_}
-use mathlib.Core.Bool.{Bool, true, not, cond}
+use mathlib.Core.Bool.{true, not, cond}
 use Rattle.lists.specs.Lists.{sum, those, every, SameBag}
 use Rattle.lists.proofs.SumLaws.{sum-append, sum-those}
 use Rattle.lists.proofs.BagLaws.{bag-refl, bag-trans, bag-append}

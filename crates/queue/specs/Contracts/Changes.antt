@@ -10,7 +10,7 @@ use Rattle.geometry.specs.declared.Point.{Point}
 use Rattle.lists.specs.Lists.{sum, those, every, SameBag}
 use Rattle.walk.specs.Pairs.{pairOf}
 use Rattle.lists.specs.Frames.{But, FloatsBut}
-use Rattle.memory.specs.Entries.{pairAt, slotAt, queued, stamp}
+use Rattle.memory.specs.Entries.{slotAt, queued, stamp}
 use Rattle.queue.specs.Contracts.Ranks.{rankIn}
 use Rattle.queue.specs.Contracts.Order.{Sifted}
 use Rattle.queue.specs.State.{isCurrent, isQueued, openIn}
