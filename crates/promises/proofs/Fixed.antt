@@ -31,6 +31,7 @@ use Rattle.meaning.specs.Start.{startVertex, startMesh}
 use Rattle.meaning.specs.Outcome.{rulesIn, startOf, targetOf, lastMesh, stuck, bordersHeld, stuckAnswer, thinnedOutcome, Outcome, outcome, outcomeBy}
 use Rattle.meaning.proofs.PartsLaws.{parts-at}
 use Rattle.promises.specs.Steps.{stateAt, answerAt, budgetOf, carried, givenFaces, fixedPoint}
+use Rattle.promises.specs.Written.{newNumber, writtenPoint}
 use Rattle.promises.proofs.Admitted.{passed}
 use Rattle.promises.proofs.Eligible.{eligible-fit, open-eligible}
 
@@ -102,7 +103,7 @@ module _ (i : Input) (admitted : verdictOf i ≡ Admitted) (x : ℕ) (is-fixed :
   -- the point that is written for its new number has its input bits, where some face that is left holds it
   pub fixed-written :
       outcome i .answer .number ≡ 0 → some (holds x) (lastMesh i .faces) ≡ true
-      → pointAt (outcome i .points) (placeIn (used [] (lastMesh i .faces)) x) ≡ pointAt (i .points) x
+      → writtenPoint i (newNumber i x) ≡ pointAt (i .points) x
   unfolding lastMesh
   fixed-written done there =
       let seen = used [] (lastMesh i .faces) in

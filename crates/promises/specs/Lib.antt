@@ -1,4 +1,5 @@
 -- Words that the promises are said in.
 pub mod Steps
+pub mod Written
 pub mod Fair
 pub mod Table
