@@ -2,10 +2,10 @@
 -- Assumes nothing.
 use Prim.Native.Nat.{ℕ, _<_}
 use native.Mathlib.Omega.{arith}
-use mathlib.Core.Path.{_≡_, ap, _∙_}
+use mathlib.Core.Path.{_≡_, refl, ap, _∙_}
 use mathlib.Core.Logic.{_≢_}
 use mathlib.Core.List.{[]}
-use mathlib.Core.Bool.{Bool, true, false, _&&_, cond}
+use mathlib.Core.Bool.{Bool, true, false, cond}
 use mathlib.Mathlib.Data.Bool.Basic.{and-elim-right}
 use lib.Dec.{ltb}
 use Rattle.lists.specs.Lists.{some}
@@ -58,9 +58,14 @@ pub start-carried : (i : Input) (x : ℕ) → x < pointsIn i → dataOf (rulesIn
 unfolding startOf started startMesh
 start-carried i x small = getD-each (startOfPoint i) (pointsIn i) x (rulesIn i .blank) small
 
--- the kind of a point that is fixed at the start
-kind-fixed : (preserve border : Bool) → (preserve && border) ≡ true → fixed (cond (preserve && border) Border Free) ≡ true
-kind-fixed preserve border e = rw e
+-- a fixed point is one whose kind at the start is fixed
+kind-fixed : (b : Bool) → fixed (cond b Border Free) ≡ b
+kind-fixed true = refl
+kind-fixed false = refl
+
+pub fixed-at-start : (i : Input) (x : ℕ) → x < pointsIn i → fixed (carried i 0 x .kind) ≡ fixedPoint i x
+unfolding walk
+fixed-at-start i x small = ap (λ (d : Vertex). fixed (d .kind)) (start-carried i x small) ∙ kind-fixed (fixedPoint i x)
 
 module _ (i : Input) (admitted : verdictOf i ≡ Admitted) (x : ℕ) (is-fixed : fixedPoint i x ≡ true) where
   pub fixed-below : x < pointsIn i
@@ -73,10 +78,8 @@ module _ (i : Input) (admitted : verdictOf i ≡ Admitted) (x : ℕ) (is-fixed :
   unfolding rulesOf
   never keep remove e = let fit = eligible-fit (i .options .limit) (i .bound) keep remove e in (fit .keep-free, fit .remove-free)
 
-  held-first : fixed (dataOf (rulesIn i) (startOf i .mesh) x .kind) ≡ true
-  held-first =
-      ap (λ (d : Vertex). fixed (d .kind)) (start-carried i x fixed-below)
-      ∙ kind-fixed (i .options .preserve) (borderPoint (pointsIn i) (givenFaces i) x) is-fixed
+  held-first : fixed (carried i 0 x .kind) ≡ true
+  held-first = fixed-at-start i x fixed-below ∙ is-fixed
 
   -- ---- every step
 
@@ -94,8 +97,7 @@ module _ (i : Input) (admitted : verdictOf i ≡ Admitted) (x : ℕ) (is-fixed :
   pub fixed-never-folded : (n : ℕ) (p : Pair) → answerAt i n ≡ folded p → (p .keep ≢ x) × (p .remove ≢ x)
   fixed-never-folded n p e =
       held-apart (rulesIn i) (λ d. fixed (d .kind)) never (stateAt i n) (open-eligible i n) x
-      (ap (λ (d : Vertex). fixed (d .kind)) (fixed-never-moves n)
-      ∙ kind-fixed (i .options .preserve) (borderPoint (pointsIn i) (givenFaces i) x) is-fixed)
+      (ap (λ (d : Vertex). fixed (d .kind)) (fixed-never-moves n) ∙ kind-fixed (fixedPoint i x) ∙ is-fixed)
       p (answer-folded (rulesIn i) (targetOf i) (stateAt i n) p e .0)
 
   -- ---- the output

@@ -1,18 +1,18 @@
 -- Faces with new numbers: different points have different ones, two points share as many faces under them, and the faces are read back from the numbers written.
 -- Assumes nothing.
-use Prim.Native.Nat.{ℕ, zero, suc, _+_, _*_, _≤_, _<_}
+use Prim.Native.Nat.{ℕ, zero, suc, _+_, _*_, _<_}
 use native.Mathlib.Nat.{le-of-suc-le-suc, le-of-eq, not-suc-le-zero}
 use native.Mathlib.Omega.{arith}
 use mathlib.Core.Path.{_≡_, refl, sym, ap, _∙_}
 use mathlib.Core.Logic.{_≢_}
 use mathlib.Core.List.{List, [], _∷_, map}
-use mathlib.Core.Bool.{Bool, true, _&&_, _||_, cond}
+use mathlib.Core.Bool.{true, _&&_, _||_, cond}
 use borrow.Author.Tests.{eqb-true, eqb-false, eq-eqb, ne-eqb}
 use lib.Dec.{eqb}
 use lib.ListN.{length, getD, length-map}
 use lib.Seq.{ext-getD}
 use Rattle.walk.specs.declared.Face.{Face}
-use Rattle.lists.specs.Lists.{sum, every}
+use Rattle.lists.specs.Lists.{every}
 use Rattle.lists.proofs.TestLaws.{by-outcome, both-true}
 use Rattle.lists.proofs.SumLaws.{sum-map, sum-le}
 use Rattle.lists.proofs.BelowLaws.{length-each, getD-each}
