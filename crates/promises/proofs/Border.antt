@@ -40,6 +40,7 @@ module _ (i : Input) (admitted : verdictOf i ≡ Admitted) (preserved : i .optio
   end-fixed x y e = and-intro preserved (end-border (givenFaces i) x y (pointsIn i) (passed i admitted .faces-proper) e)
 
   module _ (x y : ℕ) (edge : borderEdge (givenFaces i) x y ≡ true) where
+    -- its ends are two points, and fixed
     x-y : x ≢ y
     x-y = edge-differ (givenFaces i) x y edge
 
@@ -67,6 +68,7 @@ module _ (i : Input) (admitted : verdictOf i ≡ Admitted) (preserved : i .optio
     step-shares n (closed p) e = refl
     step-shares n ended e = refl
 
+    -- so after any number of steps exactly one face holds both ends
     still-shared : (n : ℕ) → shared (facesAt i n) x y ≡ 1
     unfolding walk
     still-shared zero = ap (λ (faces : List Face). shared faces x y) (start-faces i) ∙ edge-shared (givenFaces i) x y edge
@@ -83,6 +85,7 @@ module _ (i : Input) (admitted : verdictOf i ≡ Admitted) (preserved : i .optio
 -- ---- so every fixed point is in the output
 
 module _ (i : Input) (admitted : verdictOf i ≡ Admitted) (x : ℕ) (is-fixed : fixedPoint i x ≡ true) where
+  -- preserve is on
   preserved : i .options .preserve ≡ true
   preserved = and-elim-left (i .options .preserve) (borderPoint (pointsIn i) (givenFaces i) x) is-fixed
 

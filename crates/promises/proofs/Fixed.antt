@@ -37,10 +37,11 @@ use Rattle.promises.proofs.Eligible.{eligible-fit, open-eligible}
 
 -- ---- an answer of 0
 
--- where the answer is 0, the outcome is the thinned mesh
+-- a walk that is stuck is not answered with 0
 stuck-not : (borders : ℕ) → stuckAnswer borders .number ≡ 0 → ⊥
 stuck-not borders e = by-test (ltb 0 borders) (λ t. omega (arith, rw t at e)) (λ t. omega (arith, rw t at e))
 
+-- where the answer is 0, the outcome is the thinned mesh
 pub thinned-is : (i : Input) → verdictOf i ≡ Admitted → outcome i .answer .number ≡ 0 → outcome i ≡ thinnedOutcome i
 unfolding outcome outcomeBy
 thinned-is i admitted done =
@@ -54,20 +55,23 @@ thinned-is i admitted done =
 abbrev startOfPoint : Input → ℕ → Vertex
 startOfPoint i x = startVertex (i .points) (givenFaces i) (pointsIn i) (i .options .preserve) x
 
+-- it is what stands there
 pub start-carried : (i : Input) (x : ℕ) → x < pointsIn i → dataOf (rulesIn i) (startOf i .mesh) x ≡ startOfPoint i x
 unfolding startOf started startMesh
 start-carried i x small = getD-each (startOfPoint i) (pointsIn i) x (rulesIn i .blank) small
 
--- a fixed point is one whose kind at the start is fixed
+-- border points are fixed, and free ones are not
 kind-fixed : (b : Bool) → fixed (cond b Border Free) ≡ b
 kind-fixed true = refl
 kind-fixed false = refl
 
+-- a fixed point is one whose kind at the start is fixed
 pub fixed-at-start : (i : Input) (x : ℕ) → x < pointsIn i → fixed (carried i 0 x .kind) ≡ fixedPoint i x
 unfolding walk
 fixed-at-start i x small = ap (λ (d : Vertex). fixed (d .kind)) (start-carried i x small) ∙ kind-fixed (fixedPoint i x)
 
 module _ (i : Input) (admitted : verdictOf i ≡ Admitted) (x : ℕ) (is-fixed : fixedPoint i x ≡ true) where
+  -- it is a point that there is
   pub fixed-below : x < pointsIn i
   fixed-below =
       border-below (pointsIn i) (givenFaces i) x (passed i admitted .faces-proper)
@@ -78,6 +82,7 @@ module _ (i : Input) (admitted : verdictOf i ≡ Admitted) (x : ℕ) (is-fixed :
   unfolding rulesOf
   never keep remove e = let fit = eligible-fit (i .options .limit) (i .bound) keep remove e in (fit .keep-free, fit .remove-free)
 
+  -- it is fixed at the start
   held-first : fixed (carried i 0 x .kind) ≡ true
   held-first = fixed-at-start i x fixed-below ∙ is-fixed
 
@@ -90,6 +95,7 @@ module _ (i : Input) (admitted : verdictOf i ≡ Admitted) (x : ℕ) (is-fixed :
       walk-still (rulesIn i) (λ d. fixed (d .kind)) never (targetOf i) n (startOf i) (open-eligible i 0) x held-first
       ∙ start-carried i x fixed-below
 
+  -- so it is where the input has it
   pub fixed-point-same : (n : ℕ) → carried i n x .point ≡ pointAt (i .points) x
   fixed-point-same n = ap (λ (d : Vertex). d .point) (fixed-never-moves n)
 
