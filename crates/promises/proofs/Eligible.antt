@@ -30,6 +30,7 @@ pub record Fit (limit : Limit) (bound : Float) (keep remove : Vertex) : Type 0 w
   pub not-long : aboveLimit (pairLength keep remove) limit ≡ false
   pub cost-finite : finite (pairCost bound keep remove) ≡ true
 
+-- the test says so
 pub eligible-fit : (limit : Limit) (bound : Float) (keep remove : Vertex) → eligible limit bound keep remove ≡ true → Fit limit bound keep remove
 unfolding eligible
 eligible-fit limit bound keep remove e =

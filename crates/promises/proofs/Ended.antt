@@ -78,6 +78,7 @@ module _ (i : Input) (admitted : verdictOf i ≡ Admitted) where
 
   -- ---- the end
 
+  -- no more faces than the budget is made for
   few : length (startOf i .mesh .faces) ≤ facesIn i
   few = omega (arith, start-count i)
 

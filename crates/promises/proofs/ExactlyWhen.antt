@@ -42,18 +42,22 @@ Some i = (n : ℕ) × (p : ℕ) × Given i n p
 
 -- ---- from a verdict to the answer
 
+-- refused: the verdict's own
 refused : (i : Input) {n p : ℕ} → verdictOf i ≡ Refused n p → Answers i n p
 unfolding outcome outcomeBy
 refused i e = (ap (λ (d : Verdict). outcomeBy d i .answer .number) e, ap (λ (d : Verdict). outcomeBy d i .answer .place) e)
 
+-- copied: 0
 copied : (i : Input) → verdictOf i ≡ Copied → Answers i 0 0
 unfolding outcome outcomeBy
 copied i e = (ap (λ (d : Verdict). outcomeBy d i .answer .number) e, ap (λ (d : Verdict). outcomeBy d i .answer .place) e)
 
+-- walked with no fold made: 10 or 11
 stuck-answers : (i : Input) → verdictOf i ≡ Admitted → stuck i ≡ true → Answers i (stuckAnswer (bordersHeld i) .number) (stuckAnswer (bordersHeld i) .place)
 unfolding outcome outcomeBy
 stuck-answers i e t = (rw (e, t), rw (e, t))
 
+-- walked: 0
 thinned-answers : (i : Input) → verdictOf i ≡ Admitted → stuck i ≡ false → Answers i 0 0
 unfolding outcome outcomeBy
 thinned-answers i e t = (rw (e, t), rw (e, t))
@@ -74,6 +78,7 @@ module _ (i : Input) (admitted : verdictOf i ≡ Admitted) where
   is-stuck : WalkEnds i [] → targetOf i < facesIn i → stuck i ≡ true
   is-stuck none above = rw (ends-so none, lt-ltb (targetOf i) (facesIn i) above)
 
+  -- and not where one was made or F is not above it
   not-stuck : {folds : List Pair} → WalkEnds i folds → (folds ≢ []) ⊎ (facesIn i ≤ targetOf i) → stuck i ≡ false
   not-stuck makes either =
       ⊎-elim (λ some-made. rw (some-length (foldsWalked i) (λ e. some-made (sym (ends-so makes) ∙ e)))) (λ few. rw (le-ltb (targetOf i) (facesIn i) few, and-false)) either
@@ -85,6 +90,7 @@ module _ (i : Input) (admitted : verdictOf i ≡ Admitted) where
 -- ---- each row gives its number and its place
 
 module _ (i : Input) (bounded : i .bound ≡ coordinateBound) where
+  -- what the table gives is the answer
   pub given-answers : {n p : ℕ} → Given i n p → (outcome i .answer .number ≡ n) × (outcome i .answer .place ≡ p)
   given-answers (row-1 u) = refused i (verdict-1 i bounded u)
   given-answers (row-2 p l) = refused i (verdict-2 i bounded p l)

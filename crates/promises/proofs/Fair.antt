@@ -50,6 +50,7 @@ mesh-after i n p e =
     ∙ ap (λ (a : StepAnswer). after (rulesIn i) (stateAt i n) a .mesh) e
 
 module _ (i : Input) (admitted : verdictOf i ≡ Admitted) (n : ℕ) (p : Pair) (is-folded : answerAt i n ≡ folded p) where
+  -- what the answer tells: the pair is open, and its fold is allowed
   told : isOpen (stateAt i n) p × (allowed (rulesIn i) (stateAt i n .mesh) p ≡ true)
   told = answer-folded (rulesIn i) (targetOf i) (stateAt i n) p is-folded
 
@@ -57,6 +58,7 @@ module _ (i : Input) (admitted : verdictOf i ≡ Admitted) (n : ℕ) (p : Pair) 
   pub fold-of-two : p .keep ≢ p .remove
   fold-of-two = open-differ (stateAt i n) (states-sound i admitted n) p (told .0)
 
+  -- the faces after the step, and what the points carry there
   faces-after : facesAt i (n + 1) ≡ foldedFaces (facesAt i n) p
   unfolding foldedMesh
   faces-after = ap (λ (m : Mesh Vertex). m .faces) (mesh-after i n p is-folded)

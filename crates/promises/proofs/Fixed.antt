@@ -2,10 +2,10 @@
 -- Assumes nothing.
 use Prim.Native.Nat.{ℕ, _<_}
 use native.Mathlib.Omega.{arith}
-use mathlib.Core.Path.{_≡_, ap, _∙_}
+use mathlib.Core.Path.{_≡_, refl, ap, _∙_}
 use mathlib.Core.Logic.{_≢_}
 use mathlib.Core.List.{[]}
-use mathlib.Core.Bool.{Bool, true, false, _&&_, cond}
+use mathlib.Core.Bool.{Bool, true, false, cond}
 use mathlib.Mathlib.Data.Bool.Basic.{and-elim-right}
 use lib.Dec.{ltb}
 use Rattle.lists.specs.Lists.{some}
@@ -31,15 +31,17 @@ use Rattle.meaning.specs.Start.{startVertex, startMesh}
 use Rattle.meaning.specs.Outcome.{rulesIn, startOf, targetOf, lastMesh, stuck, bordersHeld, stuckAnswer, thinnedOutcome, Outcome, outcome, outcomeBy}
 use Rattle.meaning.proofs.PartsLaws.{parts-at}
 use Rattle.promises.specs.Steps.{stateAt, answerAt, budgetOf, carried, givenFaces, fixedPoint}
+use Rattle.promises.specs.Written.{newNumber, writtenPoint}
 use Rattle.promises.proofs.Admitted.{passed}
 use Rattle.promises.proofs.Eligible.{eligible-fit, open-eligible}
 
 -- ---- an answer of 0
 
--- where the answer is 0, the outcome is the thinned mesh
+-- a walk that is stuck is not answered with 0
 stuck-not : (borders : ℕ) → stuckAnswer borders .number ≡ 0 → ⊥
 stuck-not borders e = by-test (ltb 0 borders) (λ t. omega (arith, rw t at e)) (λ t. omega (arith, rw t at e))
 
+-- where the answer is 0, the outcome is the thinned mesh
 pub thinned-is : (i : Input) → verdictOf i ≡ Admitted → outcome i .answer .number ≡ 0 → outcome i ≡ thinnedOutcome i
 unfolding outcome outcomeBy
 thinned-is i admitted done =
@@ -53,15 +55,23 @@ thinned-is i admitted done =
 abbrev startOfPoint : Input → ℕ → Vertex
 startOfPoint i x = startVertex (i .points) (givenFaces i) (pointsIn i) (i .options .preserve) x
 
+-- it is what stands there
 pub start-carried : (i : Input) (x : ℕ) → x < pointsIn i → dataOf (rulesIn i) (startOf i .mesh) x ≡ startOfPoint i x
 unfolding startOf started startMesh
 start-carried i x small = getD-each (startOfPoint i) (pointsIn i) x (rulesIn i .blank) small
 
--- the kind of a point that is fixed at the start
-kind-fixed : (preserve border : Bool) → (preserve && border) ≡ true → fixed (cond (preserve && border) Border Free) ≡ true
-kind-fixed preserve border e = rw e
+-- border points are fixed, and free ones are not
+kind-fixed : (b : Bool) → fixed (cond b Border Free) ≡ b
+kind-fixed true = refl
+kind-fixed false = refl
+
+-- a fixed point is one whose kind at the start is fixed
+pub fixed-at-start : (i : Input) (x : ℕ) → x < pointsIn i → fixed (carried i 0 x .kind) ≡ fixedPoint i x
+unfolding walk
+fixed-at-start i x small = ap (λ (d : Vertex). fixed (d .kind)) (start-carried i x small) ∙ kind-fixed (fixedPoint i x)
 
 module _ (i : Input) (admitted : verdictOf i ≡ Admitted) (x : ℕ) (is-fixed : fixedPoint i x ≡ true) where
+  -- it is a point that there is
   pub fixed-below : x < pointsIn i
   fixed-below =
       border-below (pointsIn i) (givenFaces i) x (passed i admitted .faces-proper)
@@ -72,10 +82,9 @@ module _ (i : Input) (admitted : verdictOf i ≡ Admitted) (x : ℕ) (is-fixed :
   unfolding rulesOf
   never keep remove e = let fit = eligible-fit (i .options .limit) (i .bound) keep remove e in (fit .keep-free, fit .remove-free)
 
-  held-first : fixed (dataOf (rulesIn i) (startOf i .mesh) x .kind) ≡ true
-  held-first =
-      ap (λ (d : Vertex). fixed (d .kind)) (start-carried i x fixed-below)
-      ∙ kind-fixed (i .options .preserve) (borderPoint (pointsIn i) (givenFaces i) x) is-fixed
+  -- it is fixed at the start
+  held-first : fixed (carried i 0 x .kind) ≡ true
+  held-first = fixed-at-start i x fixed-below ∙ is-fixed
 
   -- ---- every step
 
@@ -86,6 +95,7 @@ module _ (i : Input) (admitted : verdictOf i ≡ Admitted) (x : ℕ) (is-fixed :
       walk-still (rulesIn i) (λ d. fixed (d .kind)) never (targetOf i) n (startOf i) (open-eligible i 0) x held-first
       ∙ start-carried i x fixed-below
 
+  -- so it is where the input has it
   pub fixed-point-same : (n : ℕ) → carried i n x .point ≡ pointAt (i .points) x
   fixed-point-same n = ap (λ (d : Vertex). d .point) (fixed-never-moves n)
 
@@ -93,8 +103,7 @@ module _ (i : Input) (admitted : verdictOf i ≡ Admitted) (x : ℕ) (is-fixed :
   pub fixed-never-folded : (n : ℕ) (p : Pair) → answerAt i n ≡ folded p → (p .keep ≢ x) × (p .remove ≢ x)
   fixed-never-folded n p e =
       held-apart (rulesIn i) (λ d. fixed (d .kind)) never (stateAt i n) (open-eligible i n) x
-      (ap (λ (d : Vertex). fixed (d .kind)) (fixed-never-moves n)
-      ∙ kind-fixed (i .options .preserve) (borderPoint (pointsIn i) (givenFaces i) x) is-fixed)
+      (ap (λ (d : Vertex). fixed (d .kind)) (fixed-never-moves n) ∙ kind-fixed (fixedPoint i x) ∙ is-fixed)
       p (answer-folded (rulesIn i) (targetOf i) (stateAt i n) p e .0)
 
   -- ---- the output
@@ -102,7 +111,7 @@ module _ (i : Input) (admitted : verdictOf i ≡ Admitted) (x : ℕ) (is-fixed :
   -- the point that is written for its new number has its input bits, where some face that is left holds it
   pub fixed-written :
       outcome i .answer .number ≡ 0 → some (holds x) (lastMesh i .faces) ≡ true
-      → pointAt (outcome i .points) (placeIn (used [] (lastMesh i .faces)) x) ≡ pointAt (i .points) x
+      → writtenPoint i (newNumber i x) ≡ pointAt (i .points) x
   unfolding lastMesh
   fixed-written done there =
       let seen = used [] (lastMesh i .faces) in

@@ -1,10 +1,13 @@
--- What document 01 promises of every admitted input, and which input is answered how.
+-- What document 01 promises, for every input.
+-- the walk of an admitted input ends, in sound states, with eligible pairs open
 pub mod Admitted
 pub mod Ended
 pub mod Eligible
+-- what it does to points and faces
 pub mod Fixed
 pub mod Fair
 pub mod Border
+-- the table of answers, exactly
 pub mod Says
 pub mod Words
 pub mod Rows

@@ -27,6 +27,7 @@ pub record Nothing (o : Outcome) : Type 0 where
   pub points-kept : o .points ≡ []
   pub faces-kept : o .faces ≡ []
 
+-- by the verdict
 nothing-by : (d : Verdict) (i : Input) → outcomeBy d i .answer .number ≢ 0 → Nothing (outcomeBy d i)
 unfolding outcomeBy
 nothing-by (Refused n p) i not-zero = record { no-points = refl; no-faces = refl; no-folds = refl; points-kept = refl; faces-kept = refl }
@@ -50,10 +51,12 @@ worked-by : {d : Verdict} (i : Input) → verdictOf i ≡ d → outcome i .worke
 unfolding outcome
 worked-by i e = ap (λ (d : Verdict). outcomeBy d i .worked) e
 
+-- not where it is refused
 refused-untouched : {n p : ℕ} (i : Input) → verdictOf i ≡ Refused n p → outcome i .worked ≡ false
 unfolding outcomeBy
 refused-untouched i e = worked-by i e
 
+-- and where it is copied or walked
 copied-worked : (i : Input) → verdictOf i ≡ Copied → outcome i .worked ≡ true
 unfolding outcomeBy
 copied-worked i e = worked-by i e
@@ -63,6 +66,7 @@ unfolding outcomeBy
 admitted-worked i e = worked-by i e ∙ by-test (stuck i) (λ t. rw t) (λ t. rw t)
 
 module _ (i : Input) (bounded : i .bound ≡ coordinateBound) where
+  -- so by the row of the table
   row-worked : {n p : ℕ} → Given i n p → outcome i .worked ≡ not (leb 1 n && leb n 9)
   row-worked (row-1 u) = refused-untouched i (verdict-1 i bounded u)
   row-worked (row-2 p l) = refused-untouched i (verdict-2 i bounded p l)

@@ -79,20 +79,23 @@ module _ (i : Input) (bounded : i .bound ≡ coordinateBound) where
   pub each-coordinate : (k : ℕ) → k < length (i .points) → Says (BadCoordinate i k) (badCoordinate (i .bound) (getD (i .points) k nan))
   each-coordinate k h = says-same (says-coordinate i k) (ap (λ (b : Float). badCoordinate b (getD (i .points) k nan)) bounded)
 
+  -- 7: the first bad one decides
   pub verdict-7 : {k : ℕ} → Past6 i → First (BadCoordinate i) (length (i .points)) k → verdictOf i ≡ Refused 7 k
   unfolding contentsVerdict
   verdict-7 p f =
       let g = first-said (badCoordinate (i .bound)) nan (i .points) each-coordinate f in
       contents p ∙ rw (first-some (badCoordinate (i .bound)) nan (i .points) g, first-place (badCoordinate (i .bound)) nan (i .points) _ g)
 
+  -- ratio zero: the mesh is copied
   pub verdict-zero : Past7 i → RatioZero i → verdictOf i ≡ Copied
   unfolding contentsVerdict
   verdict-zero p z = contents (p .0) ∙ rw (none-said (badCoordinate (i .bound)) nan (i .points) each-coordinate (p .1), z)
 
-  -- the faces, one by one
+  -- what stands past the end of the faces: never read
   pub firstFace : Face
   firstFace = faceAt (i .faces) 0
 
+  -- the faces, one by one
   pub faces-many : length (givenFaces i) ≡ facesIn i
   faces-many = length-each (faceAt (i .faces)) (facesIn i)
 
@@ -102,11 +105,13 @@ module _ (i : Input) (bounded : i .bound ≡ coordinateBound) where
   pub each-face : (k : ℕ) → k < length (givenFaces i) → Says (BadFace i k) (badFace (pointsIn i) (getD (givenFaces i) k firstFace))
   each-face k h = says-same (says-bad-face i k) (ap (badFace (pointsIn i)) (face-is k (omega (arith, faces-many))))
 
+  -- past ratio zero the faces decide
   faces-decide : PastZero i → verdictOf i ≡ faceVerdict (pointsIn i) 0 (givenFaces i)
   unfolding contentsVerdict
   faces-decide p =
       contents (p .0 .0) ∙ rw (none-said (badCoordinate (i .bound)) nan (i .points) each-coordinate (p .0 .1), fails (says-zero i) (p .1))
 
+  -- the lowest bad one, by 8 or 9
   pub verdict-face : {k : ℕ} → PastZero i → First (BadFace i) (facesIn i) k → verdictOf i ≡ Refused (cond (outside (pointsIn i) (faceAt (i .faces) k)) 8 9) k
   verdict-face {k} p f =
       let f' : First (BadFace i) (length (givenFaces i)) k = rw faces-many f in
@@ -121,6 +126,7 @@ module _ (i : Input) (bounded : i .bound ≡ coordinateBound) where
   pub verdict-9 : {k : ℕ} → PastZero i → First (BadFace i) (facesIn i) k → ¬ Outside i k → verdictOf i ≡ Refused 9 k
   verdict-9 {k} p f o = verdict-face p f ∙ ap (λ (b : Bool). Refused (cond b 8 9) k) (fails (says-outside i k) o)
 
+  -- or none, and the walk is made
   pub verdict-admitted : Past9 i → verdictOf i ≡ Admitted
   verdict-admitted p =
       faces-decide (p .0)

@@ -16,15 +16,17 @@ use Rattle.lists.proofs.EveryLaws.{some-from}
 use Rattle.lists.proofs.FirstLaws.{first-of}
 use Rattle.promises.specs.Table.{First, None}
 
+-- the test b says P
 pub record Says (P : Type 0) (b : Bool) : Type 0 where
   pub holds : b ≡ true → P
   pub passes : P → b ≡ true
 
 module _ {P : Type 0} {b : Bool} (says : Says P b) where
-  -- where the test fails the thing does not hold, and back
+  -- where the test fails the thing does not hold
   pub not-so : b ≡ false → ¬ P
   not-so f p = clash (says .passes p) f
 
+  -- where the thing does not hold the test fails
   pub fails : ¬ P → b ≡ false
   fails n = false-of b (λ t. n (says .holds t))
 
@@ -34,18 +36,21 @@ module _ {P : Type 0} {b : Bool} (says : Says P b) where
 
 -- ---- one test
 
+-- that it passes, and that it fails
 pub says-itself : (b : Bool) → Says (b ≡ true) b
 says-itself b = record { holds = λ t. t; passes = λ t. t }
 
 pub says-not : (b : Bool) → Says (b ≡ false) (not b)
 says-not b = record { holds = λ t. not-true b t; passes = λ f. rw f }
 
+-- below, and not below
 pub says-below : (m n : ℕ) → Says (m < n) (ltb m n)
 says-below m n = record { holds = λ t. ltb-true m n t; passes = λ h. lt-ltb m n h }
 
 pub says-least : (m n : ℕ) → Says (n ≤ m) (not (ltb m n))
 says-least m n = record { holds = λ t. ltb-false m n (not-true (ltb m n) t); passes = λ h. rw (le-ltb m n h) }
 
+-- equal, and not equal
 pub says-equal : (m n : ℕ) → Says (m ≡ n) (eqb m n)
 says-equal m n = record { holds = λ t. eqb-true m n t; passes = λ e. eq-eqb m n e }
 
@@ -54,6 +59,7 @@ says-differ m n = record { holds = λ t. differ m n t; passes = λ d. rw (ne-eqb
 
 -- ---- two tests
 
+-- one or the other
 pub says-or : {P Q : Type 0} {a b : Bool} → Says P a → Says Q b → Says (P ⊎ Q) (a || b)
 says-or {a = a} {b = b} p q = record {
   holds = λ t. either-of a b t (λ x. inl (p .holds x)) (λ y. inr (q .holds y));
@@ -72,6 +78,7 @@ says-not-both a b p q = says-same (says-or p q) (nand-or a b)
 
 module _ {A : Type 0} (test : A → Bool) (past : A) (xs : List A) {P : ℕ → Type 0}
     (says : (k : ℕ) → k < length xs → Says (P k) (test (getD xs k past))) where
+  -- the first that passes is the first of which the thing holds, and back
   pub first-says : {k : ℕ} → FirstAt test past xs k → First P (length xs) k
   first-says {k} f = record {
     within = f .within;
@@ -86,6 +93,7 @@ module _ {A : Type 0} (test : A → Bool) (past : A) (xs : List A) {P : ℕ → 
     none-before = λ j h. fails (says j (omega (arith, f .within))) (f .none-before j h);
   }
 
+  -- none passes where the thing holds of none, and back
   pub none-says : some test xs ≡ false → None P (length xs)
   none-says none k h p = clash (some-from test past xs k h (says k h .passes p)) none
 

@@ -20,18 +20,22 @@ use Rattle.promises.proofs.Says.{Says, says-same, says-itself, says-not
 
 -- ---- 1 to 4
 
+-- 1: point or face list length is no multiple of 3
 pub says-uneven : (i : Input) → Says (Uneven i) (uneven (length (i .points)) (length (i .faces)))
 says-uneven i = says-or (says-differ (length (i .points) % 3) 0) (says-differ (length (i .faces) % 3) 0)
 
+-- 2: V or F above its limit
 pub says-large : (i : Input) → Says (Large i) (large (pointsIn i) (facesIn i))
 says-large i = says-or (says-below 65536 (pointsIn i)) (says-below 131072 (facesIn i))
 
+-- five tests joined, from the left or from the right
 five : (a b c d e : Bool) → (a || b || c || d || e) ≡ (a || (b || (c || (d || e))))
 five true b c d e = refl
 five false true c d e = refl
 five false false true d e = refl
 five false false false d e = refl
 
+-- 3: an output or work buffer shorter than stated
 pub says-short : (i : Input) → Says (Short i) (short (pointsIn i) (facesIn i) (i .rooms))
 says-short i =
     let v = pointsIn i in
@@ -45,6 +49,7 @@ says-short i =
     (five (ltb (i .rooms .points) (3 * v)) (ltb (i .rooms .faces) (3 * f)) (ltb (i .rooms .u32s) (16 * v + 32 * f))
     (ltb (i .rooms .f32s) (4 * v + 12 * f)) (ltb (i .rooms .f64s) (16 * v + 6 * f)))
 
+-- 4: V = 0 or F = 0
 pub says-empty : (i : Input) → Says (Empty i) (empty (pointsIn i) (facesIn i))
 says-empty i = says-or (says-equal (pointsIn i) 0) (says-equal (facesIn i) 0)
 
@@ -56,6 +61,7 @@ outside-or true b = refl
 outside-or false true = refl
 outside-or false false = refl
 
+-- 5: ratio is NaN, below 0 or above 1
 ratio-is : (r : Float) → badRatio r ≡ (isNan r || (lt r zeroFloat || lt oneFloat r))
 unfolding isNan le lt eq
 ratio-is nan = refl
@@ -70,6 +76,7 @@ says-ratio i =
     let r = i .options .ratio in
     says-same (says-or (says-itself (isNan r)) (says-or (says-itself (lt r zeroFloat)) (says-itself (lt oneFloat r)))) (ratio-is r)
 
+-- 6: length limit is NaN
 says-limit-is : (limit : Limit) → Says ((most : Float) × (limit ≡ AtMost most) × (isNan most ≡ true)) (badLimit limit)
 says-limit-is Unlimited = record { holds = λ t. absurd (false≢true t); passes = λ p. let (most, e, n) = p in absurd (false≢true (ap isLimited e)) }
   where
@@ -81,6 +88,7 @@ says-limit-is (AtMost most) = record { holds = λ t. (most, refl, t); passes = �
 pub says-limit : (i : Input) → Says (BadLimit i) (badLimit (i .options .limit))
 says-limit i = says-limit-is (i .options .limit)
 
+-- 7: a coordinate is not finite, or its size is above 1,048,576
 coordinate-is : (bound x : Float) → isNan bound ≡ false → badCoordinate bound x ≡ (not (finite x) || (lt bound x || lt x (neg bound)))
 unfolding isNan neg
 coordinate-is bound nan p = refl
@@ -103,15 +111,18 @@ says-coordinate i k =
     says-same (says-or (says-not (finite x)) (says-or (says-itself (lt coordinateBound x)) (says-itself (lt x (neg coordinateBound)))))
     (coordinate-is coordinateBound x bound-is-number)
 
+-- ratio 0.0 or -0.0
 pub says-zero : (i : Input) → Says (RatioZero i) (eq (i .options .ratio) zeroFloat)
 says-zero i = says-itself (eq (i .options .ratio) zeroFloat)
 
 -- ---- 8 and 9
 
+-- three tests joined, from the left or from the right
 three-and : (a b c : Bool) → not (a && b && c) ≡ not (a && (b && c))
 three-and true b c = refl
 three-and false b c = refl
 
+-- 8: a face names a point not below V
 pub says-outside : (i : Input) (k : ℕ) → Says (Outside i k) (outside (pointsIn i) (faceAt (i .faces) k))
 says-outside i k =
     let v = pointsIn i in
@@ -121,6 +132,7 @@ says-outside i k =
     (says-not-both (ltb (f .b) v) (ltb (f .c) v) (says-least (f .b) v) (says-least (f .c) v)))
     (three-and (ltb (f .a) v) (ltb (f .b) v) (ltb (f .c) v))
 
+-- 9: a face names one point twice
 pub says-doubled : (i : Input) (k : ℕ) → Says (Doubled i k) (doubled (faceAt (i .faces) k))
 says-doubled i k =
     let f = faceAt (i .faces) k in
@@ -128,5 +140,6 @@ says-doubled i k =
     (says-or (says-equal (f .a) (f .b)) (says-or (says-equal (f .b) (f .c)) (says-equal (f .c) (f .a))))
     (or-assoc (eqb (f .a) (f .b)) (eqb (f .b) (f .c)) (eqb (f .c) (f .a)))
 
+-- 8 or 9
 pub says-bad-face : (i : Input) (k : ℕ) → Says (BadFace i k) (outside (pointsIn i) (faceAt (i .faces) k) || doubled (faceAt (i .faces) k))
 says-bad-face i k = says-or (says-outside i k) (says-doubled i k)

@@ -1,5 +1,6 @@
 -- Words that the promises are said in.
 pub mod Steps
+pub mod Written
 pub mod Fair
 pub mod Table
 pub mod Finite

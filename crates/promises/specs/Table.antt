@@ -1,5 +1,5 @@
 -- Document 01's table of answers, row by row and in its words. `Given i n p` says that the table gives the input i the number n with the place p.
--- It is written from the table, not from the definitions that the code is held to; proofs/ExactlyWhen.antt shows that the two agree.
+-- It names neither `verdictOf` nor `outcome`, which the code is held to; proofs/ExactlyWhen.antt shows that they agree with it.
 use Prim.Native.Nat.{ℕ, _+_, _*_, _%_, _≤_, _<_}
 use mathlib.Core.Path.{_≡_}
 use mathlib.Core.Logic.{_≢_, _⊎_}

@@ -19,4 +19,5 @@ pub mod BagWalk
 pub mod OpenSums
 pub mod PlaceLaws
 pub mod RenumberLaws
+pub mod NumberedLaws
 pub mod StateLaws
