@@ -17,7 +17,7 @@ use Rattle.meaning.specs.declared.Verdict.the-variants.{Refused, Copied}
 use Rattle.meaning.specs.Input.{Input, pointsIn, facesIn}
 use Rattle.bits.specs.Cut.{zeroFloat}
 use Rattle.meaning.specs.Answers.{uneven, large, short, empty, badRatio, badLimit, badCoordinate, outside, faceVerdict, contentsVerdict, verdictOf}
-use Rattle.checks.specs.Facts.{noFace, LowestBad, InTable}
+use Rattle.checks.specs.Facts.{noFace, LowestBad, RefusalFits}
 use Rattle.checks.proofs.SearchLaws.{length-faces}
 use Rattle.meaning.proofs.VerdictOrder.{refuses, past, decided}
 use Rattle.checks.proofs.OrderLaws.{not-large}
@@ -66,7 +66,7 @@ lowest-bad-face i {n} e h =
 
 -- a number whose place is 0, or a later one
 from-zero : (test : Bool) (m : ℕ) (later : Verdict) {n p : ℕ} → 1 ≤ m → m ≤ 9
-    → (test ≡ false → later ≡ Refused n p → InTable n p) → cond test (Refused m 0) later ≡ Refused n p → InTable n p
+    → (test ≡ false → later ≡ Refused n p → RefusalFits n p) → cond test (Refused m 0) later ≡ Refused n p → RefusalFits n p
 from-zero false m later a b after e = after refl e
 from-zero true m later {n} {p} a b after e =
     let number : m ≡ n = cc in
@@ -74,8 +74,8 @@ from-zero true m later {n} {p} a b after e =
     record { number-least = omega arith; number-most = omega arith; place-fits = omega arith }
 
 -- the numbers 7 to 9
-contents-in-table : (i : Input) {n p : ℕ} → large (pointsIn i) (facesIn i) ≡ false → contentsVerdict (i .points) (i .faces) (i .options .ratio) (i .bound) ≡ Refused n p → InTable n p
-contents-in-table i small e =
+contents-fit : (i : Input) {n p : ℕ} → large (pointsIn i) (facesIn i) ≡ false → contentsVerdict (i .points) (i .faces) (i .options .ratio) (i .bound) ≡ Refused n p → RefusalFits n p
+contents-fit i small e =
     let limits = not-large (pointsIn i) (facesIn i) small in
     ⊎-elim
     (λ s. record { number-least = omega (arith, s .0); number-most = omega (arith, s .0); place-fits = omega (arith, s .1 .within) })
@@ -85,13 +85,13 @@ contents-in-table i small e =
     (contents-refused (i .points) (i .faces) (i .options .ratio) (i .bound) e)
 
 -- a refusal's number is one of the table, and its place fits u32
-pub in-table : (i : Input) {n p : ℕ} → verdictOf i ≡ Refused n p → InTable n p
+pub refusal-fits : (i : Input) {n p : ℕ} → verdictOf i ≡ Refused n p → RefusalFits n p
 unfolding verdictOf
-in-table i e =
+refusal-fits i e =
     from-zero (uneven (length (i .points)) (length (i .faces))) 1 _ (omega arith) (omega arith)
     (λ _. from-zero (large (pointsIn i) (facesIn i)) 2 _ (omega arith) (omega arith)
     (λ small. from-zero (short (pointsIn i) (facesIn i) (i .rooms)) 3 _ (omega arith) (omega arith)
     (λ _. from-zero (empty (pointsIn i) (facesIn i)) 4 _ (omega arith) (omega arith)
     (λ _. from-zero (badRatio (i .options .ratio)) 5 _ (omega arith) (omega arith)
     (λ _. from-zero (badLimit (i .options .limit)) 6 _ (omega arith) (omega arith)
-    (λ _. contents-in-table i small)))))) e
+    (λ _. contents-fit i small)))))) e

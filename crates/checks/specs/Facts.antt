@@ -64,8 +64,8 @@ pub record LowestBad (v : ℕ) (faces : List Face) (n p : ℕ) : Type 0 where
   pub lowest : FirstAt (improper v) noFace faces p
   pub number : n ≡ cond (outside v (getD faces p noFace)) 8 9
 
--- a number of the table, and a place that fits u32
-pub record InTable (n p : ℕ) : Type 0 where
+-- a number from 1 to 9, and a place that fits u32
+pub record RefusalFits (n p : ℕ) : Type 0 where
   pub number-least : 1 ≤ n
   pub number-most : n ≤ 9
   pub place-fits : p < 2 ^ 32
