@@ -6,19 +6,23 @@ use mathlib.Core.List.{List}
 use Rattle.meaning.specs.declared.Answer.{Answer}
 use Rattle.meaning.specs.declared.Options.{Options}
 use Rattle.meaning.specs.Input.{Input}
-use Rattle.meaning.specs.Call.{Lent, Thinned}
+use Rattle.meaning.specs.Call.{Lent}
+use Rattle.walking.specs.declared.Engine.{Engine}
+use Rattle.thinning.specs.Made.{ThinnedBy}
 use Rattle.hjoltravan.specs.Calls.{fiveOf, Called, CalledWithFolds}
 
 -- for options that are the ones asked for
-module _ {made asked : Options} (input : Options → Input) {before after : Lent} {folds folds' five : List ℕ} {r : Answer}
-    (same : made ≡ asked) (thinned : Thinned (input made) before after folds folds' r) (told : five ≡ fiveOf r) where
+module _ {made asked : Options} (input : Options → Input) {engine : Engine} {before after : Lent} {folds folds' five : List ℕ} {r : Answer}
+    (same : made ≡ asked) (thinned : ThinnedBy engine (input made) before after folds folds' r) (told : five ≡ fiveOf r) where
   -- with the folds
-  pub called-with-folds : CalledWithFolds (input asked) before after folds folds' five
+  pub called-with-folds : CalledWithFolds engine (input asked) before after folds folds' five
   called-with-folds =
-      let here : Thinned (input asked) before after folds folds' r = rw same at thinned in
-      let answer = here .answered .answered in
+      let here : ThinnedBy engine (input asked) before after folds folds' r = rw same at thinned in
+      let answer = here .thinned .answered .answered in
       record { told = told ∙ ap fiveOf answer; left = rw answer at here }
 
   -- and without
-  pub called : Called (input asked) before after five
-  called = record { told = called-with-folds .told; left = called-with-folds .left .answered }
+  pub called : Called engine (input asked) before after five
+  called =
+      let left = called-with-folds .left in
+      record { told = called-with-folds .told; left = left .thinned .answered; made = left .made }

@@ -9,20 +9,21 @@ use Rattle.bits.specs.Narrow.{narrowBits}
 use Rattle.bits.specs.Order.{orderKey}
 use Rattle.meaning.specs.Input.{Input}
 use Rattle.meaning.specs.Call.{Lent}
+use Rattle.walking.specs.declared.Engine.{Engine}
 use Rattle.meaning.proofs.Determined.{determined-answer, determined}
 use Rattle.hjoltravan.specs.Calls.{Called, CalledWithFolds}
 
 -- hjoltravan_thin and hjoltravan_thin_plain: the lent buffers and the five cells
-pub called-determined : (i : Input) {before after₁ after₂ : Lent} {five₁ five₂ : List ℕ} →
-    Called i before after₁ five₁ → Called i before after₂ five₂ → (after₁ ≡ after₂) × (five₁ ≡ five₂)
+pub called-determined : (i : Input) {engine : Engine} {before after₁ after₂ : Lent} {five₁ five₂ : List ℕ} →
+    Called engine i before after₁ five₁ → Called engine i before after₂ five₂ → (after₁ ≡ after₂) × (five₁ ≡ five₂)
 called-determined i a b = (determined-answer i (a .left) (b .left) .0, a .told ∙ sym (b .told))
 
 -- hjoltravan_thin_folds: the fold list too
-pub called-with-folds-determined : (i : Input) {before after₁ after₂ : Lent} {folds folds₁ folds₂ five₁ five₂ : List ℕ} →
-    CalledWithFolds i before after₁ folds folds₁ five₁ → CalledWithFolds i before after₂ folds folds₂ five₂ →
+pub called-with-folds-determined : (i : Input) {engine : Engine} {before after₁ after₂ : Lent} {folds folds₁ folds₂ five₁ five₂ : List ℕ} →
+    CalledWithFolds engine i before after₁ folds folds₁ five₁ → CalledWithFolds engine i before after₂ folds folds₂ five₂ →
     (after₁ ≡ after₂) × (folds₁ ≡ folds₂) × (five₁ ≡ five₂)
 called-with-folds-determined i a b =
-    let same = determined i (a .left) (b .left) in
+    let same = determined i (a .left .thinned) (b .left .thinned) in
     (same .0, same .2, a .told ∙ sym (b .told))
 
 -- hjoltravan_root, hjoltravan_narrow and hjoltravan_order

@@ -9,7 +9,11 @@ use Rattle.meaning.specs.declared.Answer.{Answer}
 use Rattle.meaning.specs.declared.Options.{Options}
 use Rattle.meaning.specs.Input.{Input}
 use Rattle.meaning.specs.Outcome.{outcome}
-use Rattle.meaning.specs.Call.{Lent, Answered, Thinned}
+use Rattle.meaning.specs.declared.Verdict.the-variants.{Admitted}
+use Rattle.meaning.specs.Answers.{verdictOf}
+use Rattle.meaning.specs.Call.{Lent, Answered}
+use Rattle.walking.specs.declared.Engine.{Engine}
+use Rattle.thinning.specs.Made.{MadeBy, ThinnedBy}
 
 -- the options of a call
 abbrev pub optionsOf : (ratio : Float) (preserve limited : Bool) (limit : Float) → Options
@@ -19,12 +23,13 @@ optionsOf ratio preserve limited limit = record { ratio = ratio; preserve = pres
 abbrev pub fiveOf : Answer → List ℕ
 fiveOf r = r .number ∷ r .place ∷ r .points ∷ r .faces ∷ r .folds ∷ []
 
--- the outcome of the input, and its answer in the five cells
-pub record Called (i : Input) (before after : Lent) (five : List ℕ) : Type 0 where
+-- the outcome of the input, its answer in the five cells, and the engine that made it
+pub record Called (engine : Engine) (i : Input) (before after : Lent) (five : List ℕ) : Type 0 where
   pub told : five ≡ fiveOf (outcome i .answer)
   pub left : Answered i before after (outcome i .answer)
+  pub made : verdictOf i ≡ Admitted → MadeBy engine i before after (outcome i .answer)
 
 -- the same, with the list of folds that the entry's statement says
-pub record CalledWithFolds (i : Input) (before after : Lent) (folds folds' five : List ℕ) : Type 0 where
+pub record CalledWithFolds (engine : Engine) (i : Input) (before after : Lent) (folds folds' five : List ℕ) : Type 0 where
   pub told : five ≡ fiveOf (outcome i .answer)
-  pub left : Thinned i before after folds folds' (outcome i .answer)
+  pub left : ThinnedBy engine i before after folds folds' (outcome i .answer)

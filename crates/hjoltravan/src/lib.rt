@@ -4,6 +4,7 @@ ghost use Rattle.bits.specs.Root.{rootBits};
 ghost use Rattle.bits.specs.Narrow.{narrowBits};
 ghost use Rattle.bits.specs.Order.{orderKey};
 ghost use Rattle.meaning.specs.Call.{lent, inputOf};
+ghost use Rattle.walking.specs.declared.Engine.the-variants.{Plain, Heap};
 ghost use Rattle.hjoltravan.specs.Calls.{optionsOf, fiveOf, Called, CalledWithFolds};
 use meaning::Answer;
 use meaning::Options;
@@ -44,7 +45,7 @@ pub extern "C" fn hjoltravan_thin(
     work_f64: &mut [f64],
     answer: &mut [u32; 5],
 )
-    ensures { λ _. ⌜ Called (inputOf (now (points .entry)) (now (faces .entry)) (optionsOf ratio preserve limited limit) (lent (now («out_points» .entry)) (now («out_faces» .entry)) (now («work_u32» .entry)) (now («work_f32» .entry)) (now («work_f64» .entry)))) (lent (now («out_points» .entry)) (now («out_faces» .entry)) (now («work_u32» .entry)) (now («work_f32» .entry)) (now («work_f64» .entry))) (lent (now («out_points» .exit)) (now («out_faces» .exit)) (now («work_u32» .exit)) (now («work_f32» .exit)) (now («work_f64» .exit))) (now (answer .exit)) ⌝ }
+    ensures { λ _. ⌜ Called Heap (inputOf (now (points .entry)) (now (faces .entry)) (optionsOf ratio preserve limited limit) (lent (now («out_points» .entry)) (now («out_faces» .entry)) (now («work_u32» .entry)) (now («work_f32» .entry)) (now («work_f64» .entry)))) (lent (now («out_points» .entry)) (now («out_faces» .entry)) (now («work_u32» .entry)) (now («work_f32» .entry)) (now («work_f64» .entry))) (lent (now («out_points» .exit)) (now («out_faces» .exit)) (now («work_u32» .exit)) (now («work_f32» .exit)) (now («work_f64» .exit))) (now (answer .exit)) ⌝ }
 {
     let options = options_of(ratio, preserve, limited, limit);
     let mut folds = [0u32; 1];
@@ -79,7 +80,7 @@ pub extern "C" fn hjoltravan_thin_plain(
     work_f64: &mut [f64],
     answer: &mut [u32; 5],
 )
-    ensures { λ _. ⌜ Called (inputOf (now (points .entry)) (now (faces .entry)) (optionsOf ratio preserve limited limit) (lent (now («out_points» .entry)) (now («out_faces» .entry)) (now («work_u32» .entry)) (now («work_f32» .entry)) (now («work_f64» .entry)))) (lent (now («out_points» .entry)) (now («out_faces» .entry)) (now («work_u32» .entry)) (now («work_f32» .entry)) (now («work_f64» .entry))) (lent (now («out_points» .exit)) (now («out_faces» .exit)) (now («work_u32» .exit)) (now («work_f32» .exit)) (now («work_f64» .exit))) (now (answer .exit)) ⌝ }
+    ensures { λ _. ⌜ Called Plain (inputOf (now (points .entry)) (now (faces .entry)) (optionsOf ratio preserve limited limit) (lent (now («out_points» .entry)) (now («out_faces» .entry)) (now («work_u32» .entry)) (now («work_f32» .entry)) (now («work_f64» .entry)))) (lent (now («out_points» .entry)) (now («out_faces» .entry)) (now («work_u32» .entry)) (now («work_f32» .entry)) (now («work_f64» .entry))) (lent (now («out_points» .exit)) (now («out_faces» .exit)) (now («work_u32» .exit)) (now («work_f32» .exit)) (now («work_f64» .exit))) (now (answer .exit)) ⌝ }
 {
     let options = options_of(ratio, preserve, limited, limit);
     let mut folds = [0u32; 1];
@@ -115,7 +116,7 @@ pub extern "C" fn hjoltravan_thin_folds(
     folds: &mut [u32],
     answer: &mut [u32; 5],
 )
-    ensures { λ _. ⌜ CalledWithFolds (inputOf (now (points .entry)) (now (faces .entry)) (optionsOf ratio preserve limited limit) (lent (now («out_points» .entry)) (now («out_faces» .entry)) (now («work_u32» .entry)) (now («work_f32» .entry)) (now («work_f64» .entry)))) (lent (now («out_points» .entry)) (now («out_faces» .entry)) (now («work_u32» .entry)) (now («work_f32» .entry)) (now («work_f64» .entry))) (lent (now («out_points» .exit)) (now («out_faces» .exit)) (now («work_u32» .exit)) (now («work_f32» .exit)) (now («work_f64» .exit))) (now (folds .entry)) (now (folds .exit)) (now (answer .exit)) ⌝ }
+    ensures { λ _. ⌜ CalledWithFolds Heap (inputOf (now (points .entry)) (now (faces .entry)) (optionsOf ratio preserve limited limit) (lent (now («out_points» .entry)) (now («out_faces» .entry)) (now («work_u32» .entry)) (now («work_f32» .entry)) (now («work_f64» .entry)))) (lent (now («out_points» .entry)) (now («out_faces» .entry)) (now («work_u32» .entry)) (now («work_f32» .entry)) (now («work_f64» .entry))) (lent (now («out_points» .exit)) (now («out_faces» .exit)) (now («work_u32» .exit)) (now («work_f32» .exit)) (now («work_f64» .exit))) (now (folds .entry)) (now (folds .exit)) (now (answer .exit)) ⌝ }
 {
     let options = options_of(ratio, preserve, limited, limit);
     let r = thinning::thin(

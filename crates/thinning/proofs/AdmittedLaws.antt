@@ -16,9 +16,10 @@ use Rattle.meaning.specs.declared.Verdict.the-variants.{Admitted}
 use Rattle.meaning.specs.Input.{Input, pointsIn, facesIn}
 use Rattle.meaning.specs.Answers.{verdictOf}
 use Rattle.meaning.specs.Outcome.{startOf, targetOf, lastMesh, foldsWalked, Outcome, foldsBy, foldsOf}
-use Rattle.meaning.specs.Call.{Lent, lent, inputOf, Leaves, Thinned}
+use Rattle.meaning.specs.Call.{Lent, lent, inputOf, Leaves}
 use Rattle.walking.specs.declared.Came.{Came}
 use Rattle.walking.specs.declared.Engine.{Engine}
+use Rattle.thinning.specs.Made.{ThinnedBy}
 use Rattle.walking.specs.Contracts.{Working, inputWalked, MeshWalked}
 use Rattle.thinning.specs.Contracts.{Standing, Zeroed, outcomeIn, Finished}
 use Rattle.walking.proofs.WithinLaws.{working-within}
@@ -118,12 +119,14 @@ module _ (i : Input) {engine : Engine} {points : List Float} {faces : List ℕ} 
   }
 
   -- what the call leaves
-  pub thinned : {points' : List Float} {faces' : List ℕ} {u' : List ℕ} {p' q' : List Float} {r : Answer} → verdictOf i ≡ Admitted →
-      Leaves (pointsIn i) (facesIn i) (outcomeIn (facesIn i) came w p) (lent points faces w p q) (lent points' faces' u' p' q') r →
-      Thinned i (lent points faces u pu qu) (lent points' faces' u' p' q') folds folds' r
-  unfolding foldsOf foldsBy
-  thinned verdict leaves = record {
-    answered = rw (outcome-is i verdict walked) at
-        (leaves-within (outcomeIn (facesIn i) came w p) (outcome-worked (facesIn i) came w p) (walked .within) leaves);
-    folds-listed = walked .folds-listed ∙ rw verdict;
-  }
+  module _ {points' : List Float} {faces' : List ℕ} {u' : List ℕ} {p' q' : List Float} {r : Answer}
+      (leaves : Leaves (pointsIn i) (facesIn i) (outcomeIn (facesIn i) came w p) (lent points faces w p q) (lent points' faces' u' p' q') r) where
+    as-came : Leaves (pointsIn i) (facesIn i) (outcomeIn (facesIn i) came w p) (lent points faces u pu qu) (lent points' faces' u' p' q') r
+    as-came = leaves-within (outcomeIn (facesIn i) came w p) (outcome-worked (facesIn i) came w p) (walked .within) leaves
+
+    pub thinned-by : verdictOf i ≡ Admitted → ThinnedBy engine i (lent points faces u pu qu) (lent points' faces' u' p' q') folds folds' r
+    unfolding foldsOf foldsBy
+    thinned-by verdict = record {
+      thinned = record { answered = rw (outcome-is i verdict walked) at as-came; folds-listed = walked .folds-listed ∙ rw verdict };
+      made = λ told. record { u32s = w; f32s = p; f64s = q; came = came; walked = walked .walked; answered = as-came };
+    }

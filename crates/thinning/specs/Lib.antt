@@ -1,2 +1,3 @@
 -- What the stages of a call ask and leave.
 pub mod Contracts
+pub mod Made

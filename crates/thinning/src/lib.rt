@@ -6,8 +6,9 @@ ghost use Rattle.mesh.specs.Contracts.Chains.{Tidy};
 ghost use Rattle.meaning.specs.declared.Verdict.the-variants.{Admitted};
 ghost use Rattle.meaning.specs.Answers.{verdictOf};
 ghost use Rattle.meaning.specs.Outcome as Outcomes;
-ghost use Rattle.meaning.specs.Call.{lent, inputOf, Leaves, Thinned};
+ghost use Rattle.meaning.specs.Call.{lent, inputOf, Leaves};
 ghost use Rattle.walking.specs.Contracts.{Working};
+ghost use Rattle.thinning.specs.Made.{ThinnedBy};
 ghost use Rattle.thinning.specs.Contracts.{Measured, Standing, copyOf, Zeroed, outcomeIn, Finished};
 use meaning::Answer;
 use meaning::Options;
@@ -138,7 +139,7 @@ fn admitted(
     folds: &mut [u32],
 ) -> Answer
     requires { ⌜ verdictOf (inputOf (now points) (now faces) options (lent (now «out_points») (now «out_faces») (now w) (now p) (now q))) ≡ Admitted ⌝ }
-    ensures { λ r. ⌜ Thinned (inputOf (now (points .entry)) (now (faces .entry)) options (lent (now («out_points» .entry)) (now («out_faces» .entry)) (now (w .entry)) (now (p .entry)) (now (q .entry)))) (lent (now («out_points» .entry)) (now («out_faces» .entry)) (now (w .entry)) (now (p .entry)) (now (q .entry))) (lent (now («out_points» .exit)) (now («out_faces» .exit)) (now (w .exit)) (now (p .exit)) (now (q .exit))) (now (folds .entry)) (now (folds .exit)) r ⌝ }
+    ensures { λ r. ⌜ ThinnedBy engine (inputOf (now (points .entry)) (now (faces .entry)) options (lent (now («out_points» .entry)) (now («out_faces» .entry)) (now (w .entry)) (now (p .entry)) (now (q .entry)))) (lent (now («out_points» .entry)) (now («out_faces» .entry)) (now (w .entry)) (now (p .entry)) (now (q .entry))) (lent (now («out_points» .exit)) (now («out_faces» .exit)) (now (w .exit)) (now (p .exit)) (now (q .exit))) (now (folds .entry)) (now (folds .exit)) r ⌝ }
 {
     let came = walked(engine, points, faces, options, w, p, q, folds);
     let v = points.len() / 3;
@@ -159,7 +160,7 @@ pub fn thin(
     work_f64: &mut [f64],
     folds: &mut [u32],
 ) -> Answer
-    ensures { λ r. ⌜ Thinned (inputOf (now (points .entry)) (now (faces .entry)) options (lent (now («out_points» .entry)) (now («out_faces» .entry)) (now («work_u32» .entry)) (now («work_f32» .entry)) (now («work_f64» .entry)))) (lent (now («out_points» .entry)) (now («out_faces» .entry)) (now («work_u32» .entry)) (now («work_f32» .entry)) (now («work_f64» .entry))) (lent (now («out_points» .exit)) (now («out_faces» .exit)) (now («work_u32» .exit)) (now («work_f32» .exit)) (now («work_f64» .exit))) (now (folds .entry)) (now (folds .exit)) r ⌝ }
+    ensures { λ r. ⌜ ThinnedBy engine (inputOf (now (points .entry)) (now (faces .entry)) options (lent (now («out_points» .entry)) (now («out_faces» .entry)) (now («work_u32» .entry)) (now («work_f32» .entry)) (now («work_f64» .entry)))) (lent (now («out_points» .entry)) (now («out_faces» .entry)) (now («work_u32» .entry)) (now («work_f32» .entry)) (now («work_f64» .entry))) (lent (now («out_points» .exit)) (now («out_faces» .exit)) (now («work_u32» .exit)) (now («work_f32» .exit)) (now («work_f64» .exit))) (now (folds .entry)) (now (folds .exit)) r ⌝ }
 {
     let rooms = Rooms {
         points: out_points.len(),

@@ -39,7 +39,7 @@ same c =
 write-answer-requires : tie.Need-write-answer-requires
 write-answer-requires c κs =
     let called = c .before .before .before .before .before .before .before .before .before in
-    let left = rw (same called) at (called .thin .ensures .answered) in (
+    let left = rw (same called) at (called .thin .ensures .thinned .answered) in (
       start called .pre,
       shown (outcomeHere called) (counted (callHere called)) _ _ (left .answered) (left .points-out) (left .faces-out) (search needs) (search needs),
     )
@@ -47,7 +47,7 @@ write-answer-requires c κs =
 returns : tie.Need-returns
 returns c =
     let called = c .before .before .before .before .before .before .before .before .before .before .before .before in
-    let left = rw (same called) at (called .thin .ensures .answered) in
+    let left = rw (same called) at (called .thin .ensures .thinned .answered) in
     outcome-texted (outcomeHere called) (counted (callHere called)) _ _ (left .answered) (left .points-out) (left .faces-out) (start called .args .head .unit)
     (c .before .before .write-answer .ensures)
 

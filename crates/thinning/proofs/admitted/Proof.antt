@@ -6,7 +6,7 @@ use Rattle.meaning.specs.Call.{Lent, lent, inputOf}
 use Rattle.checks.specs.Facts.{Admissible}
 use Rattle.checks.proofs.VerdictLaws as verdicts
 use Rattle.thinning.proofs.SizeLaws.{ready}
-use Rattle.thinning.proofs.AdmittedLaws.{same-walk, finish-asked, thinned}
+use Rattle.thinning.proofs.AdmittedLaws.{same-walk, finish-asked, thinned-by}
 use Rattle.thinning.proofs.admitted.Statement.{statement}
 use Rattle.thinning.proofs.admitted.Tie as tie
 
@@ -59,7 +59,7 @@ returns c =
     let before = stage .before .before .before .before .before .before .before .before .before .before .before .before .before .before in
     let start = before .before .before .before .before .before .before .before .before .before .before .before .before .before in
     let a = start .args in
-    thinned (input start) (same-walk (a .points .now) (a .faces .now) (a .options) (buffers start) (before .walked .ensures)) (start .pre) (stage .finished .ensures)
+    thinned-by (input start) (same-walk (a .points .now) (a .faces .now) (a .options) (buffers start) (before .walked .ensures)) (stage .finished .ensures) (start .pre)
 
 pub admitted-spec : {M : Type 1} → statement M
 admitted-spec =

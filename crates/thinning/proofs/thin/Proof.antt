@@ -41,7 +41,7 @@ returns : tie.Need-returns
 returns c =
     let known = c .before .before in
     let found = known .before .before in
-    outcomes.refused (input (entry found)) (sym (known .number .given .1) ∙ found .verdict-of .ensures) (c .refusal .ensures)
+    outcomes.refused (entry found .args .engine) (input (entry found)) (sym (known .number .given .1) ∙ found .verdict-of .ensures) (c .refusal .ensures)
 
 same-length : tie.Need-same-length
 same-length c = c .before .before .before .before .before .before .before .before .before .out-points .given
@@ -62,7 +62,7 @@ returns-2 : tie.Need-returns-2
 returns-2 c =
     let done = c .before .before .before .before .before .before .before .before .before .before in
     let known = done .before .before .before .before .before .before in
-    outcomes.copied (input (entry (known .before .before))) (is-copied known) (done .copied .ensures)
+    outcomes.copied (entry (known .before .before) .args .engine) (input (entry (known .before .before))) (is-copied known) (done .copied .ensures)
 
 same-length-6 : tie.Need-same-length-6
 same-length-6 c = c .before .before .before .before .before .before .before .before .before .before .before .out-points2 .given
