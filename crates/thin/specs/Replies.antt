@@ -89,6 +89,6 @@ sizeGot got.Failed = 0
 
 -- No more bytes were read than there is room for, and there is as much room as before. Which bytes they are hangs on what `read` of the C library does, whose
 -- contract says nothing of them.
-pub record Held (r : Got) (old new : List ℕ) : Type 0 where
+pub record ReadIn (r : Got) (old new : List ℕ) : Type 0 where
   pub within : sizeGot r ≤ length new
   pub same-length : length new ≡ length old

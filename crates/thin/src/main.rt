@@ -7,7 +7,7 @@ ghost use Rattle.scanfile.specs.declared.Scan.the-variants.{Good};
 ghost use Rattle.scanfile.specs.Scans.{scanOf};
 ghost use Rattle.meaning.specs.Outcome.{outcome};
 ghost use Rattle.listing.specs.Texts.{refusalText, meshText};
-ghost use Rattle.thin.specs.Replies.{sizeIn, answerText, callOf, outcomeText, replyBy, replyOf, Texted, Shown, Held};
+ghost use Rattle.thin.specs.Replies.{sizeIn, answerText, callOf, outcomeText, replyBy, replyOf, Texted, Shown, ReadIn};
 use libc::STDERR_FILENO;
 use libc::STDIN_FILENO;
 use libc::STDOUT_FILENO;
@@ -185,7 +185,7 @@ enum Got {
 
 // Reads standard input to its end, or until the buffer is full.
 fn read_input(input: &mut [u8]) -> Got
-    ensures { λ r. ⌜ Held r (now (input .entry)) (now (input .exit)) ⌝ }
+    ensures { λ r. ⌜ ReadIn r (now (input .entry)) (now (input .exit)) ⌝ }
 {
     let mut at = 0;
     while at < input.len() {
