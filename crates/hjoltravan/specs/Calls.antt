@@ -23,7 +23,7 @@ optionsOf ratio preserve limited limit = record { ratio = ratio; preserve = pres
 abbrev pub fiveOf : Answer → List ℕ
 fiveOf r = r .number ∷ r .place ∷ r .points ∷ r .faces ∷ r .folds ∷ []
 
--- the outcome of the input, its answer in the five cells, and the engine that made it
+-- the outcome of the input, its answer in the five cells, and how a mesh that is admitted was walked
 pub record Called (engine : Engine) (i : Input) (before after : Lent) (five : List ℕ) : Type 0 where
   pub told : five ≡ fiveOf (outcome i .answer)
   pub left : Answered i before after (outcome i .answer)

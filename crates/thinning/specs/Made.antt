@@ -1,4 +1,4 @@
--- What the public entry states: the outcome of the input, and by which engine it was made.
+-- What the public entry states: the outcome of the input, and, where the heap is asked for, that a heap walk made it.
 use mathlib.Core.Path.{_≡_}
 use mathlib.Core.List.{List}
 use Prim.Native.Nat.{ℕ}
@@ -23,7 +23,7 @@ pub record MadeBy (engine : Engine) (i : Input) (before after : Lent) (r : Answe
   pub walked : LaidAndWalked engine i (before .u32s) (before .f32s) (before .f64s) u32s f32s f64s came
   pub answered : Leaves (pointsIn i) (facesIn i) (outcomeIn (facesIn i) came u32s f32s) before after r
 
--- the whole statement of a call, which is the same for both engines, and for a mesh that is admitted to the walk the engine that made it
+-- the whole statement of a call, which is the same for both engines, and how a mesh that is admitted was walked
 pub record ThinnedBy (engine : Engine) (i : Input) (before after : Lent) (folds folds' : List ℕ) (r : Answer) : Type 0 where
   pub thinned : Thinned i before after folds folds' r
   pub made : verdictOf i ≡ Admitted → MadeBy engine i before after r
