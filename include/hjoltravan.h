@@ -1,5 +1,6 @@
-/* Hjoltravan: thins a triangle mesh. Every answer is proved to be the one that the statement
-   in crates/meaning/specs/Call.antt gives, for any input. No allocation, no global state, no errno. */
+/* Hjoltravan: thins a triangle mesh, and writes one as a scan file. Every answer is proved to be the one that the statement
+   in crates/meaning/specs/Call.antt gives (of the writer, the one in crates/scanwriter/specs/Written.antt), for any input.
+   No allocation, no global state, no errno. */
 #ifndef HJOLTRAVAN_H
 #define HJOLTRAVAN_H
 
@@ -79,6 +80,30 @@ void hjoltravan_thin_folds(const float *points, size_t points_len, const uint32_
                            float *out_points, size_t out_points_len, uint32_t *out_faces, size_t out_faces_len,
                            uint32_t *work_u32, size_t work_u32_len, float *work_f32, size_t work_f32_len,
                            double *work_f64, size_t work_f64_len, uint32_t *folds, size_t folds_len, uint32_t answer[5]);
+
+/* The most points and faces of a scan file, and how many bytes one takes. */
+#define HJOLTRAVAN_FILE_MOST_POINTS 128
+#define HJOLTRAVAN_FILE_MOST_FACES 256
+#define HJOLTRAVAN_FILE_BYTES(V, F) (30 + 12 * (size_t)(V) + 12 * (size_t)(F))
+
+/* Writes a mesh and its unit as a scan file, which the program thin reads: the unit, no flags, ratio and limit 0, the points, the faces.
+
+   unit                 1 millimetre, 2 micrometre
+   points, points_len   x, y, z of each point; written by their bits, a NaN as 7fc00000
+   faces, faces_len     the three point numbers of each triangle, any numbers
+   file, file_len       at least HJOLTRAVAN_FILE_BYTES bytes; those past the file's end are never written
+   answer               number, place, bytes written (0 on a refusal)
+
+   The numbers, in the order they are checked (a refusal leaves file as it came):
+    1  a list's length is no multiple of 3
+   24  the unit is neither 1 nor 2
+   27  more than 128 points (place: 18) or 256 faces (place: 24 + 12V); the offset that their record would have in the file
+   31  file is too short
+    0  done
+
+   file and answer may not overlap another part, the inputs included. The mesh isn't looked at: whether faces name points that there are is for hjoltravan_thin. */
+void hjoltravan_write_scan(uint32_t unit, const float *points, size_t points_len, const uint32_t *faces, size_t faces_len,
+                           uint8_t *file, size_t file_len, uint32_t answer[3]);
 
 /* The leaves, on bit patterns: the square root of an f32, an f64 rounded to f32, and the signed key of an f64
    whose order is IEEE 754-2019 totalOrder. */

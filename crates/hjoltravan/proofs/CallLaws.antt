@@ -1,15 +1,18 @@
--- A call of the entry, told in five numbers, is what the C interface states.
+-- A call of the entry, told in five numbers, is what the C interface states; and one of the writer, told in three.
 -- Assumes nothing.
 use Prim.Native.Nat.{ℕ}
 use mathlib.Core.Path.{_≡_, ap, _∙_}
 use mathlib.Core.List.{List}
+use lib.Ieee.{Float}
 use Rattle.meaning.specs.declared.Answer.{Answer}
 use Rattle.meaning.specs.declared.Options.{Options}
 use Rattle.meaning.specs.Input.{Input}
 use Rattle.meaning.specs.Call.{Lent}
 use Rattle.walking.specs.declared.Engine.{Engine}
 use Rattle.thinning.specs.Made.{ThinnedBy}
-use Rattle.hjoltravan.specs.Calls.{fiveOf, Called, CalledWithFolds}
+use Rattle.scanwriter.specs.declared.Writing.{Writing}
+use Rattle.scanwriter.specs.Written.{threeOf, ScanWritten}
+use Rattle.hjoltravan.specs.Calls.{fiveOf, Called, CalledWithFolds, CalledToWrite}
 
 -- for options that are the ones asked for
 module _ {made asked : Options} (input : Options → Input) {engine : Engine} {before after : Lent} {folds folds' five : List ℕ} {r : Answer}
@@ -26,3 +29,8 @@ module _ {made asked : Options} (input : Options → Input) {engine : Engine} {b
   called =
       let left = called-with-folds .left in
       record { told = called-with-folds .told; left = left .thinned .answered; made = left .made }
+
+-- the writer's answer is the one that its statement gives
+pub called-to-write : {unit : ℕ} {points : List Float} {faces old new three : List ℕ} {w : Writing} → ScanWritten unit points faces old new w → three ≡ threeOf w →
+    CalledToWrite unit points faces old new three
+called-to-write done told = record { told = told ∙ ap threeOf (done .answered); left = rw (done .answered) at done }

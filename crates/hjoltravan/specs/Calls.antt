@@ -1,8 +1,10 @@
--- What a call through C leaves: the entry's outcome, with the answer as five numbers, and the folds where they are asked for.
+-- What a call through C leaves: the entry's outcome, with the answer as five numbers, and the folds where they are asked for; and the writer's, with
+-- the answer as three.
 use Prim.Native.Nat.{ℕ}
 use mathlib.Core.Path.{_≡_}
 use mathlib.Core.List.{List, [], _∷_}
 use mathlib.Core.Bool.{Bool}
+use lib.ListN.{length}
 use lib.Ieee.{Float}
 use Rattle.placement.specs.Choices.{limitOf}
 use Rattle.meaning.specs.declared.Answer.{Answer}
@@ -14,6 +16,7 @@ use Rattle.meaning.specs.Answers.{verdictOf}
 use Rattle.meaning.specs.Call.{Lent, Answered}
 use Rattle.walking.specs.declared.Engine.{Engine}
 use Rattle.thinning.specs.Made.{MadeBy, ThinnedBy}
+use Rattle.scanwriter.specs.Written.{writingOf, threeOf, ScanWritten}
 
 -- the options of a call
 abbrev pub optionsOf : (ratio : Float) (preserve limited : Bool) (limit : Float) → Options
@@ -33,3 +36,8 @@ pub record Called (engine : Engine) (i : Input) (before after : Lent) (five : Li
 pub record CalledWithFolds (engine : Engine) (i : Input) (before after : Lent) (folds folds' five : List ℕ) : Type 0 where
   pub told : five ≡ fiveOf (outcome i .answer)
   pub left : ThinnedBy engine i before after folds folds' (outcome i .answer)
+
+-- a file written: number, place and bytes written in the three cells, and every byte of the buffer
+pub record CalledToWrite (unit : ℕ) (points : List Float) (faces old new three : List ℕ) : Type 0 where
+  pub told : three ≡ threeOf (writingOf unit (length points) (length faces) (length old))
+  pub left : ScanWritten unit points faces old new (writingOf unit (length points) (length faces) (length old))

@@ -5,9 +5,10 @@ ghost use Rattle.bits.specs.Narrow.{narrowBits};
 ghost use Rattle.bits.specs.Order.{orderKey};
 ghost use Rattle.meaning.specs.Call.{lent, inputOf};
 ghost use Rattle.walking.specs.declared.Engine.the-variants.{Plain, Heap};
-ghost use Rattle.hjoltravan.specs.Calls.{optionsOf, fiveOf, Called, CalledWithFolds};
+ghost use Rattle.hjoltravan.specs.Calls.{optionsOf, fiveOf, Called, CalledWithFolds, CalledToWrite};
 use meaning::Answer;
 use meaning::Options;
+use scanwriter::Writing;
 use walking::Engine;
 
 // The options of a call.
@@ -132,6 +133,27 @@ pub extern "C" fn hjoltravan_thin_folds(
         folds,
     );
     tell(answer, r);
+}
+
+// Writes a mesh and its unit as a file.
+#[no_mangle]
+pub extern "C" fn hjoltravan_write_scan(
+    unit: u32,
+    points: &[f32],
+    faces: &[u32],
+    file: &mut [u8],
+    answer: &mut [u32; 3],
+)
+    ensures { λ _. ⌜ CalledToWrite unit (now (points .entry)) (now (faces .entry)) (now (file .entry)) (now (file .exit)) (now (answer .exit)) ⌝ }
+{
+    match scanwriter::write_scan(unit, points, faces, file) {
+        Writing::Bytes(n) => {
+            *answer = [0, 0, n as u32];
+        }
+        Writing::Refused(number, place) => {
+            *answer = [number, place, 0];
+        }
+    }
 }
 
 // The square root of an f32, on bit patterns.

@@ -11,8 +11,8 @@ use lib.ListN.{length}
 use lib.Ieee.{Float, binary32, toBits}
 use Rattle.lists.proofs.TestLaws.{both-true}
 use Rattle.text.specs.Lines.{wordLine, linesTo}
-use Rattle.text.specs.Contracts.{Put}
-use Rattle.text.proofs.StoreLaws.{wider, both, whole}
+use Rattle.lists.specs.Puts.{Put}
+use Rattle.lists.proofs.PutLaws.{wider, both, whole}
 use Rattle.text.proofs.RoomLaws.{NoLonger, two-within, word-within, decimal-within, hexadecimal-within, number-within, line-within, lines-within}
 use Rattle.listing.specs.declared.Printed.the-variants.{Bytes, NoRoom}
 use Rattle.listing.specs.Texts.{floatThen, pointLine, faceLine, answerWord, unitWord, foldsWord, verticesWord, facesWord, placeWord, headText, refusalText, meshText, refusalRoom, meshRoom, meshFits}

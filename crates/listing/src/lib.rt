@@ -3,7 +3,7 @@ ghost use mathlib.Core.Path.{_≡_};
 ghost use Prim.Native.Nat.{_+_, _*_, _/_, _≤_, _<_};
 ghost use lib.ListN.{length};
 ghost use Rattle.text.specs.Lines.{linesTo};
-ghost use Rattle.text.specs.Contracts.{Put};
+ghost use Rattle.lists.specs.Puts.{Put};
 ghost use Rattle.listing.specs.Texts.{floatThen, pointLine, faceLine, headText, refusalText, meshText, meshRoom, refusalFits, meshFits};
 ghost use Rattle.listing.specs.Written.{Prints};
 ghost use Rattle.listing.specs.Contracts.{MeshAsked};

@@ -13,3 +13,4 @@ pub mod FrameLaws
 pub mod WrittenLaws
 pub mod StoredLaws
 pub mod OverlayLaws
+pub mod PutLaws

@@ -7,7 +7,9 @@ use native.Mathlib.Omega.{arith}
 use mathlib.Core.Path.{_≡_, refl, sym, ap, _∙_}
 use mathlib.Core.List.{List, [], _∷_, _++_, append-assoc}
 use lib.ListN.{length, getD, take, drop, length-append}
-use lib.Seq.{drop-cons, drop-drop, getD-drop, getD-take}
+use lib.Seq.{drop-cons, drop-drop, getD-drop, getD-take, take-suc, take-length}
+use Rattle.lists.specs.Puts.{Put}
+use Rattle.lists.proofs.PutLaws.{none, wider, both}
 use Rattle.records.specs.Words.{twoBytes, fourBytes, numbersFrom, asTwo, asFour, asFours}
 
 -- ---- numbers one after another
@@ -84,6 +86,45 @@ fours-small (n ∷ ns) small (suc (suc zero)) = omega (arith, small 0)
 fours-small (n ∷ ns) small (suc (suc (suc zero))) = omega (arith, small 0)
 fours-small (n ∷ ns) small (suc (suc (suc (suc i)))) = fours-small ns (λ j. small (suc j)) i
 
+-- ---- numbers stored one after another
+
+pub fours-join : (ms ns : List ℕ) → asFours (ms ++ ns) ≡ asFours ms ++ asFours ns
+unfolding asFours
+fours-join [] ns = refl
+fours-join (m ∷ ms) ns = ap (λ (l : List ℕ). asFour m ++ l) (fours-join ms ns) ∙ sym (append-assoc (asFour m) (asFours ms) (asFours ns))
+
+module _ (ns : List ℕ) (at : ℕ) (old : List ℕ) where
+  -- the first i are stored
+  pub record FoursStored (i : ℕ) (w : List ℕ) (next : ℕ) : Type 0 where
+    pub most : i ≤ length ns
+    pub so-far : Put (4 * i) (asFours (take i ns)) at old w next
+    pub here : next ≡ at + 4 * i
+
+  pub none-stored : FoursStored 0 old at
+  unfolding asFours
+  none-stored = record { most = omega arith; so-far = none old at; here = omega arith }
+
+  -- one more is stored. `past` stands for what is past the end, and is never read.
+  pub one-stored : (past : ℕ) {i next r n : ℕ} {w w' : List ℕ} → i < length ns → n ≡ getD ns i past → FoursStored i w next → Put 4 (asFour n) next w w' r →
+      FoursStored (i + 1) w' r
+  unfolding asFours
+  one-stored past {i} {next} {r} {n} {w} {w'} h is s done =
+      let four : asFour n ≡ asFours (getD ns i past ∷ []) = rw is refl in
+      let longer : asFours (take i ns) ++ asFour n ≡ asFours (take (i + 1) ns) =
+      rw (four, add-one i, take-suc ns i past h) (sym (fours-join (take i ns) (getD ns i past ∷ []))) in
+      let more : 4 * i + 4 ≤ 4 * (i + 1) = omega arith in
+      record {
+        most = omega arith;
+        so-far = rw longer at (wider more (both (s .so-far) done));
+        here = omega (arith, done .past);
+      }
+
+  -- all are stored
+  pub all-stored : {i next : ℕ} {w : List ℕ} → length ns ≤ i → FoursStored i w next → Put (4 * length ns) (asFours ns) at old w next
+  all-stored {i} {next} {w} h s =
+      let all : i ≡ length ns = omega arith in
+      rw (all, take-length) at (s .so-far)
+
 -- ---- writing what was read
 
 module _ (bytes : List ℕ) (small : (i : ℕ) → getD bytes i 0 < 256) where
@@ -98,6 +139,10 @@ module _ (bytes : List ℕ) (small : (i : ℕ) → getD bytes i 0 < 256) where
 
   two-small : (at : ℕ) → twoBytes bytes at < 65536
   two-small at = omega (arith, small at, small (at + 1))
+
+  pub four-small : (at : ℕ) → fourBytes bytes at < 4294967296
+  unfolding fourBytes
+  four-small at = omega (arith, two-small at, two-small (at + 2))
 
   pub write-four : (at : ℕ) → at + 4 ≤ length bytes → drop at bytes ≡ asFour (fourBytes bytes at) ++ drop (at + 4) bytes
   unfolding fourBytes

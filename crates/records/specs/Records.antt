@@ -33,9 +33,13 @@ pub record Record : Type 0 where
   pub kind : ℕ
   pub payload : List ℕ
 
+-- a head: the payload's length and the kind
+abbrev pub headBytes : ℕ → ℕ → List ℕ
+headBytes size kind = asFour size ++ asTwo kind
+
 -- one record
 abbrev pub recordBytes : Record → List ℕ
-recordBytes r = asFour (length (r .payload)) ++ (asTwo (r .kind) ++ r .payload)
+recordBytes r = headBytes (length (r .payload)) (r .kind) ++ r .payload
 
 -- records one after another
 unfoldable pub recordsBytes : List Record → List ℕ

@@ -75,22 +75,22 @@ module _ (c : Contents) (v f : ℕ) (w : Writable c v f) where
       )
 
   -- what a reader finds, number by number
-  record Found (bytes : List ℕ) : Type 0 where
-    first-size : sizeAt bytes 0 ≡ 12
-    first-kind : kindAt bytes 0 ≡ 1
-    unit : twoBytes bytes unitAt ≡ c .unit
-    flags : twoBytes bytes flagsAt ≡ c .flags
-    ratio : fourBytes bytes ratioAt ≡ c .ratio
-    limit : fourBytes bytes limitAt ≡ c .limit
-    second-size : sizeAt bytes secondAt ≡ 12 * v
-    second-kind : kindAt bytes secondAt ≡ 2
-    points : numbersFrom bytes pointsAt (3 * v) ≡ c .points
-    third-size : sizeAt bytes (thirdAfter v) ≡ 12 * f
-    third-kind : kindAt bytes (thirdAfter v) ≡ 3
-    faces : numbersFrom bytes (facesAt v) (3 * f) ≡ c .faces
-    whole : length bytes ≡ endAfter v f
+  pub record Found (bytes : List ℕ) : Type 0 where
+    pub first-size : sizeAt bytes 0 ≡ 12
+    pub first-kind : kindAt bytes 0 ≡ 1
+    pub unit : twoBytes bytes unitAt ≡ c .unit
+    pub flags : twoBytes bytes flagsAt ≡ c .flags
+    pub ratio : fourBytes bytes ratioAt ≡ c .ratio
+    pub limit : fourBytes bytes limitAt ≡ c .limit
+    pub second-size : sizeAt bytes secondAt ≡ 12 * v
+    pub second-kind : kindAt bytes secondAt ≡ 2
+    pub points : numbersFrom bytes pointsAt (3 * v) ≡ c .points
+    pub third-size : sizeAt bytes (thirdAfter v) ≡ 12 * f
+    pub third-kind : kindAt bytes (thirdAfter v) ≡ 3
+    pub faces : numbersFrom bytes (facesAt v) (3 * f) ≡ c .faces
+    pub whole : length bytes ≡ endAfter v f
 
-  found : (bytes : List ℕ) → bytes ≡ fileOf c → Found bytes
+  pub found : (bytes : List ℕ) → bytes ≡ fileOf c → Found bytes
   unfolding recordsBytes
   found bytes e =
       let first = read-record bytes 0 (optionsRecord c) _ e in

@@ -6,7 +6,7 @@ use lib.Dec.{ltb, eqb}
 use lib.ListN.{length}
 use Rattle.records.specs.Words.{twoBytes, fourBytes}
 use Rattle.records.specs.Records.{headLength, sizeAt, kindAt, nextAt}
-use Rattle.scanfile.specs.Layout.{unitAt, flagsAt}
+use Rattle.scanfile.specs.Layout.{mostPoints, mostFaces, unitAt, flagsAt}
 
 -- 23: kind 1 not 12 long, or another no multiple of 12
 abbrev pub wrongSize : ℕ → ℕ → Bool
@@ -14,7 +14,7 @@ wrongSize kind size = cond (eqb kind 1) (not (eqb size 12)) (not (eqb (size % 12
 
 -- 27: at most 128 points and 256 faces, of 12 bytes each (kind 1 is 12 long by 23)
 abbrev pub mostOf : ℕ → ℕ
-mostOf kind = cond (eqb kind 2) (128 * 12) (256 * 12)
+mostOf kind = cond (eqb kind 2) (mostPoints * 12) (mostFaces * 12)
 
 -- the number that refuses the record at an offset, which is to be of a kind, or 0
 unfoldable pub recordFault : List ℕ → ℕ → ℕ → ℕ
@@ -38,9 +38,13 @@ unitIn bytes = twoBytes bytes unitAt
 abbrev pub flagsIn : List ℕ → ℕ
 flagsIn bytes = twoBytes bytes flagsAt
 
--- the number that refuses the first record's payload, or 0: 24 unit (1 millimetre, 2 micrometre), 26 other flag bits than 0 and 1
+-- 24: a unit is 1 millimetre or 2 micrometre
+abbrev pub knownUnit : ℕ → Bool
+knownUnit unit = eqb unit 1 || eqb unit 2
+
+-- the number that refuses the first record's payload, or 0: 24 unit, 26 other flag bits than 0 and 1
 unfoldable pub optionsFault : List ℕ → ℕ
 optionsFault bytes =
-    cond (not (eqb (unitIn bytes) 1 || eqb (unitIn bytes) 2)) 24
+    cond (not (knownUnit (unitIn bytes))) 24
     (cond (ltb 3 (flagsIn bytes)) 26
     0)

@@ -3,6 +3,15 @@ use Prim.Native.Nat.{ℕ, _+_, _*_}
 use mathlib.Core.List.{List}
 use Rattle.records.specs.Records.{sizeAt, nextAt}
 
+-- ---- the limits of a file
+
+-- points, and faces, of 12 bytes each
+abbrev pub mostPoints : ℕ
+mostPoints = 128
+
+abbrev pub mostFaces : ℕ
+mostFaces = 256
+
 -- ---- the first record's payload, 12 bytes
 
 -- unit u16

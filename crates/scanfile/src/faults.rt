@@ -2,8 +2,10 @@
 ghost use mathlib.Core.Path.{_≡_};
 ghost use Prim.Native.Nat.{_≤_};
 ghost use lib.ListN.{length};
-ghost use Rattle.scanfile.specs.Faults.{wrongSize, mostOf, recordFault, optionsFault};
+ghost use Rattle.scanfile.specs.Faults.{wrongSize, mostOf, recordFault, knownUnit, optionsFault};
 use crate::layout::FLAGS_AT;
+use crate::layout::MOST_FACES;
+use crate::layout::MOST_POINTS;
 use crate::layout::UNIT_AT;
 use records::HEAD_LENGTH;
 use records::four_bytes;
@@ -24,7 +26,11 @@ fn is_wrong_size(kind: u32, size: usize) -> bool
 fn most_of(kind: u32) -> usize
     ensures { λ r. ⌜ r ≡ mostOf kind ⌝ ∗ ⌜ r ≤ 3072 ⌝ }
 {
-    if kind == 2 { 128 * 12 } else { 256 * 12 }
+    if kind == 2 {
+        MOST_POINTS * 12
+    } else {
+        MOST_FACES * 12
+    }
 }
 
 // The number that refuses the record at an offset, which is to be of a kind, or 0.
@@ -52,13 +58,19 @@ pub fn record_fault(bytes: &[u8], kind: u32, at: usize) -> u32
     }
 }
 
+// 24: whether a unit is 1 millimetre or 2 micrometre.
+pub fn is_unit(unit: u32) -> bool
+    ensures { λ r. ⌜ r ≡ knownUnit unit ⌝ }
+{
+    (unit == 1) | (unit == 2)
+}
+
 // The number that refuses the first record's payload, or 0: the unit, then the flags.
 pub fn options_fault(bytes: &[u8]) -> u32
     requires { ⌜ 18 ≤ length (now bytes) ⌝ }
     ensures { λ r. ⌜ r ≡ optionsFault (now (bytes .entry)) ⌝ }
 {
-    let unit = two_bytes(bytes, UNIT_AT);
-    if !((unit == 1) | (unit == 2)) {
+    if !is_unit(two_bytes(bytes, UNIT_AT)) {
         return 24;
     }
     if 3 < two_bytes(bytes, FLAGS_AT) {

@@ -1,4 +1,9 @@
-// Where things stand in a file (specs/Layout.antt).
+// Where things stand in a file, and its limits (specs/Layout.antt).
+
+// The most points and faces.
+pub const MOST_POINTS: usize = 128;
+
+pub const MOST_FACES: usize = 256;
 
 // The first record's payload.
 pub const UNIT_AT: usize = 6;

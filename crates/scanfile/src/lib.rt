@@ -19,8 +19,8 @@ use records::float_at;
 use records::four_bytes;
 use records::two_bytes;
 
-mod faults;
-mod layout;
+pub mod faults;
+pub mod layout;
 mod told;
 
 // The longest good file: three heads of 6 bytes, 12 bytes of options, 128 points and 256 faces of 12 bytes each.

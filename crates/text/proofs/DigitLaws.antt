@@ -10,8 +10,8 @@ use lib.ListN.{length, set, length-append}
 use lib.Seq.{sets}
 use borrow.Author.Tests.{lt-ltb, le-ltb}
 use Rattle.text.specs.Digits.{glyph, digits, digitCount, decimal}
-use Rattle.text.specs.Contracts.{Put}
-use Rattle.text.proofs.StoreLaws.{last-first, wider}
+use Rattle.lists.specs.Puts.{Put}
+use Rattle.lists.proofs.PutLaws.{last-first, wider}
 
 -- k digits are k bytes
 pub digits-length : (base k n : ℕ) → length (digits base k n) ≡ k

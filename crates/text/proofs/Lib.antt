@@ -1,4 +1,4 @@
 -- Laws of texts, with no code in sight.
-pub mod StoreLaws
+pub mod LineLaws
 pub mod DigitLaws
 pub mod RoomLaws

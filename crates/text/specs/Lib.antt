@@ -1,4 +1,4 @@
 -- Words and numbers as text.
+pub mod Words
 pub mod Digits
 pub mod Lines
-pub mod Contracts

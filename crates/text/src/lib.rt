@@ -5,7 +5,7 @@ ghost use Prim.Native.Nat.{_+_, _≤_, _<_};
 ghost use lib.ListN.{length};
 ghost use Rattle.text.specs.Digits.{glyph as glyphOf, digits, digitCount, decimal, hexadecimal};
 ghost use Rattle.text.specs.Lines.{numberThen, wordLine};
-ghost use Rattle.text.specs.Contracts.{Put};
+ghost use Rattle.lists.specs.Puts.{Put};
 
 // The code of a digit below 16.
 fn glyph(d: u32) -> u8

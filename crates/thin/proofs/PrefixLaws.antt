@@ -11,12 +11,13 @@ use Rattle.scanfile.specs.declared.Scan.the-variants.{Good, Bad}
 use Rattle.scanfile.specs.Scans.{scanOf}
 use Rattle.scanfile.proofs.GoodLaws.{good-longest}
 use Rattle.scanfile.proofs.PrefixLaws.{prefix-enough}
+use Rattle.thin.specs.declared.replies.Wanted.{Wanted}
 use Rattle.thin.specs.Replies.{replyBy, replyOf}
 
-pub reply-prefix : (n : ℕ) → 4639 ≤ n → (bytes : List ℕ) → replyOf (take n bytes) ≡ replyOf bytes
+pub reply-prefix : (wanted : Wanted) (n : ℕ) → 4639 ≤ n → (bytes : List ℕ) → replyOf wanted (take n bytes) ≡ replyOf wanted bytes
 unfolding replyOf replyBy
-reply-prefix n most bytes = ap (replyBy (take n bytes)) (prefix-enough n most bytes) ∙ by-scan (scanOf bytes) refl
+reply-prefix wanted n most bytes = ap (replyBy wanted (take n bytes)) (prefix-enough n most bytes) ∙ by-scan (scanOf bytes) refl
   where
-    by-scan : (d : Scan) → scanOf bytes ≡ d → replyBy (take n bytes) d ≡ replyBy bytes d
+    by-scan : (d : Scan) → scanOf bytes ≡ d → replyBy wanted (take n bytes) d ≡ replyBy wanted bytes d
     by-scan (Bad number place) e = refl
-    by-scan (Good head) e = ap (λ (read : List ℕ). replyBy read (Good head)) (take-all n bytes (omega (arith, good-longest bytes head e)))
+    by-scan (Good head) e = ap (λ (read : List ℕ). replyBy wanted read (Good head)) (take-all n bytes (omega (arith, good-longest bytes head e)))

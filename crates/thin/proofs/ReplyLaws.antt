@@ -1,13 +1,15 @@
--- From what the libraries leave to the reply's text.
+-- From what the libraries leave to the reply.
 -- Assumes nothing.
 use Prim.Native.Nat.{ℕ, zero, suc, _+_, _*_, _/_, _≤_}
 use native.Mathlib.Omega.{arith}
 use mathlib.Core.Path.{_≡_, refl, sym, ap, subst, _∙_}
+use mathlib.Core.Logic.{_⊎_}
 use mathlib.Core.List.{List}
 use mathlib.Core.Bool.{Bool, true}
-use lib.ListN.{length, take, drop, length-append, length-map}
-use lib.Seq.{take-at}
-use lib.Ieee.{Float, binary32, ofBits}
+use lib.Dec.{T}
+use lib.ListN.{length, getD, take, drop, length-append, length-map}
+use lib.Seq.{take-at, length-take-le}
+use lib.Ieee.{Float, nan, binary32, fits, ofBits}
 use borrow.Author.Tests.{le-leb}
 use Rattle.meaning.specs.declared.Answer.{Answer}
 use Rattle.meaning.specs.Call.{Lent, inputOf}
@@ -23,36 +25,59 @@ use Rattle.records.proofs.WordLaws.{numbers-count}
 use Rattle.scanfile.specs.declared.Head.{Head}
 use Rattle.scanfile.specs.Layout.{pointsAt, facesAt}
 use Rattle.scanfile.specs.Contents.{pointsOf, faceNumbersOf}
-use Rattle.thin.specs.Replies.{textBy, answerText, outcomeText, headOptions, callOf, sizeIn, Texted, Shown}
+use Rattle.scanwriter.specs.declared.Writing.{Writing}
+use Rattle.scanwriter.specs.declared.Writing.the-variants as writing
+use Rattle.scanwriter.specs.Written.{scanBytes, scanRoom, ScanWritten}
+use Rattle.scanwriter.specs.Contracts.{ScanFits}
+use Rattle.scanwriter.proofs.WritingLaws.{taken}
+use Rattle.scanwriter.proofs.BackLaws.{written-over, written-count, written-bytes, written-within, written-back}
+use Rattle.thin.specs.declared.replies.Wanted.{Wanted}
+use Rattle.thin.specs.declared.replies.Wanted.the-variants.{Listing, File}
+use Rattle.thin.specs.declared.replies.Reply.{Reply}
+use Rattle.thin.specs.declared.replies.Reply.the-variants.{Mesh, Refusal}
+use Rattle.thin.specs.Replies.{Told, mesh, refusal, toldBytes, toldBy, answerTold, outcomeTold, headOptions, callOf}
+use Rattle.thin.specs.Contracts.{sizeIn, sizeOf, replyIn, IsScan, Replied, Small, Shown}
 use Rattle.thin.proofs.OutcomeLaws.{Counted}
 
--- ---- a listing is a text
+-- ---- replies from what the libraries leave
 
--- what fits is written whole
-texted : {fits : Bool} {text old new : List ℕ} {l : Printed} {r : ℕ} → fits ≡ true → length text ≤ length old → Prints fits text old new l → r ≡ sizeIn l →
-    Texted text old new r
-texted {fits} {text} {old} {new} {l} {r} large room done size =
+-- a listing that fits is written whole
+record Listed (text old new : List ℕ) (r : ℕ) : Type 0 where
+  written : new ≡ overlaid text old
+  counted : r ≡ length text
+  within : length text ≤ length new
+
+listed : {fits : Bool} {text old new : List ℕ} {l : Printed} {r : ℕ} → fits ≡ true → length text ≤ length old → Prints fits text old new l → r ≡ sizeIn l →
+    Listed text old new r
+listed {fits} {text} {old} {new} {l} {r} large room done size =
     let printed : l ≡ Bytes (length text) = rw large at (done .answered) in
     let stands : new ≡ overlaid text old = rw large at (done .written) in
-    let count : r ≡ length text = size ∙ ap sizeIn printed in
     let long : length new ≡ length (overlaid text old) = ap length stands in
     record {
       written = stands;
-      counted = count;
+      counted = size ∙ ap sizeIn printed;
       within = omega (arith, length-append text (drop (length text) old));
     }
 
-pub refusal-texted : (number place : ℕ) {old new : List ℕ} {l : Printed} {r : ℕ} → 12288 ≤ length old →
-    Prints (refusalFits (length old)) (refusalText number place) old new l → r ≡ sizeIn l → Texted (refusalText number place) old new r
-refusal-texted number place {old} room done size =
+-- a refusal's line
+pub refusal-replied : (wanted : Wanted) (number place : ℕ) {old new : List ℕ} {l : Printed} {r : ℕ} → 12288 ≤ length old →
+    Prints (refusalFits (length old)) (refusalText number place) old new l → r ≡ sizeIn l → Replied wanted (refusal number place) old new (Refusal r number place)
+refusal-replied wanted number place {old} room done size =
     let text-short : length (refusalText number place) ≤ length old = omega (arith, refusal-room number place) in
-    texted (le-leb 35 (length old) (omega arith)) text-short done size
+    let there = listed (le-leb 35 (length old) (omega arith)) text-short done size in
+    record {
+      written = there .written;
+      answered = ap (λ (k : ℕ). Refusal k number place) (there .counted);
+      within = there .within;
+      is-scan = λ n file mesh-told. let z : _≡_ {A = ℕ} 0 1 = cc in absurd (omega arith);
+    }
 
-pub mesh-texted : (unit folds : ℕ) (points : List Float) (faces : List ℕ) {old new : List ℕ} {l : Printed} {r : ℕ} → 12288 ≤ length old →
-    length points ≤ 384 → length faces ≤ 768 →
+-- the listing of a mesh
+pub listing-replied : (unit folds : ℕ) (points : List Float) (faces : List ℕ) {old new : List ℕ} {l : Printed} {r : ℕ} → 12288 ≤ length old →
+    Small unit points faces →
     Prints (meshFits (length old) (length points / 3) (length faces / 3)) (meshText unit folds points faces) old new l → r ≡ sizeIn l →
-    Texted (meshText unit folds points faces) old new r
-mesh-texted unit folds points faces {old} room points-most faces-most done size =
+    Replied Listing (mesh (meshText unit folds points faces)) old new (Mesh r)
+listing-replied unit folds points faces {old} room small done size =
     let v = length points / 3 in
     let f = length faces / 3 in
     let few : v ≤ 65536 = omega arith in
@@ -60,17 +85,70 @@ mesh-texted unit folds points faces {old} room points-most faces-most done size 
     let enough : 27 * v + 33 * f + 88 ≤ length old = omega arith in
     let fits : meshFits (length old) v f ≡ true = rw (le-leb v 65536 few, le-leb f 131072 few-faces, le-leb (27 * v + 33 * f + 88) (length old) enough) refl in
     let text-short : length (meshText unit folds points faces) ≤ length old = omega (arith, enough-room unit folds points faces) in
-    texted fits text-short done size
+    let there = listed fits text-short done size in
+    record {
+      written = there .written;
+      answered = ap Mesh (there .counted);
+      within = there .within;
+      is-scan = λ n file mesh-told. let z : _≡_ {A = ℕ} 0 1 = cc in absurd (omega arith);
+    }
 
--- ---- the text by the answer's number
+-- the file of a mesh: it fits
+small-fits : {unit : ℕ} {points : List Float} {faces out : List ℕ} → 12288 ≤ length out → Small unit points faces → ScanFits unit points faces out
+small-fits room small =
+    record {
+      points-by-three = small .points-by-three;
+      faces-by-three = small .faces-by-three;
+      unit-known = small .unit-known;
+      points-most = omega arith;
+      faces-most = omega arith;
+      room = omega arith;
+    }
 
-pub refused-text : (n : ℕ) (mesh refusal : List ℕ) → (n ≡ 0 → ⊥) → textBy n mesh refusal ≡ refusal
-refused-text zero mesh refusal other = absurd (other refl)
-refused-text (suc n) mesh refusal other = refl
+pub file-replied : {unit : ℕ} {points : List Float} {faces old new : List ℕ} {w : Writing} {n : ℕ} → ((i : ℕ) → T (fits binary32 (getD points i nan))) →
+    ScanWritten unit points faces old new w → w ≡ writing.Bytes n → Replied File (mesh (scanBytes unit points faces)) old new (Mesh n)
+file-replied {unit} {points} {faces} {old} {new} {w} {n} floats done is =
+    let whole : ScanWritten unit points faces old new (writing.Bytes n) = rw is at done in
+    let count = written-count whole in
+    record {
+      written = written-over whole;
+      answered = ap Mesh (sym count);
+      within = omega (arith, written-within whole, count);
+      is-scan = λ k file mesh-told.
+          let same : n ≡ k = cc in
+          rw (sym same)
+          (record { unit = unit; points = points; faces = faces; bytes-are = written-bytes whole; back = written-back whole floats });
+    }
 
-pub mesh-text : (n : ℕ) (mesh refusal : List ℕ) → n ≡ 0 → textBy n mesh refusal ≡ mesh
-mesh-text zero mesh refusal none = refl
-mesh-text (suc n) mesh refusal none = absurd (omega arith)
+pub never-refused : {unit : ℕ} {points : List Float} {faces old new : List ℕ} {w : Writing} {number place : ℕ} → 12288 ≤ length old → Small unit points faces →
+    ScanWritten unit points faces old new w → w ≡ writing.Refused number place → ⊥
+never-refused {unit} {points} {faces} {old} {number = number} {place} room small done is =
+    let same : writing.Bytes (scanRoom (length points) (length faces)) ≡ writing.Refused number place =
+    sym (taken (small-fits {unit = unit} {points = points} {faces = faces} {out = old} room small)) ∙ sym (done .answered) ∙ is in
+    let z : _≡_ {A = ℕ} 0 1 = cc in
+    omega arith
+
+-- ---- what a reply says of the buffer
+
+-- its bytes are all there
+told-size : (t : Told) → sizeOf (replyIn t) ≡ length (toldBytes t)
+told-size (mesh bytes) = refl
+told-size (refusal number place) = refl
+
+pub reply-within : {wanted : Wanted} {t : Told} {old new : List ℕ} {r s : Reply} → Replied wanted t old new r → r ≡ s → sizeOf s ≤ length new
+reply-within {t = t} {r = r} done is =
+    let size : sizeOf r ≡ length (toldBytes t) = ap sizeOf (done .answered) ∙ told-size t in
+    rw (sym is) (omega (arith, done .within))
+
+-- ---- the reply by the answer's number
+
+pub refused-told : (n place : ℕ) (bytes : List ℕ) → (n ≡ 0 → ⊥) → toldBy n place bytes ≡ refusal n place
+refused-told zero place bytes other = absurd (other refl)
+refused-told (suc n) place bytes other = refl
+
+pub mesh-told : (n place : ℕ) (bytes : List ℕ) → n ≡ 0 → toldBy n place bytes ≡ mesh bytes
+mesh-told zero place bytes none = refl
+mesh-told (suc n) place bytes none = absurd (omega arith)
 
 -- ---- lists over the beginning of memory
 
@@ -101,23 +179,39 @@ module _ (o : Outcome) (whole : Counted o) {r : Answer} (points : List Float) {p
   faces-count = rw answered (whole .faces)
 
   -- its mesh is there
-  pub shown : length points' ≤ 384 → length faces' ≤ 768 → Shown r points' faces'
-  shown points-most faces-most = record {
+  pub shown : {unit : ℕ} → (unit ≡ 1) ⊎ (unit ≡ 2) → length points' ≤ 384 → length faces' ≤ 768 → Shown unit r points' faces'
+  shown known points-most faces-most = record {
+    unit-known = known;
     points-there = over-there (o .points) points (3 * r .points) points-count points-out;
     faces-there = over-there (o .faces) faces (3 * r .faces) faces-count faces-out;
     points-most = points-most;
     faces-most = faces-most;
   }
 
-  -- and its text is the outcome's
-  pub outcome-texted : (unit : ℕ) {old new : List ℕ} {s : ℕ} →
-      Texted (answerText unit r (take (3 * r .points) points') (take (3 * r .faces) faces')) old new s → Texted (outcomeText unit o) old new s
-  outcome-texted unit {old} {new} {s} done =
+  -- and its reply is the outcome's
+  pub outcome-replied : (wanted : Wanted) (unit : ℕ) {old new : List ℕ} {s : Reply} →
+      Replied wanted (answerTold wanted unit r (take (3 * r .points) points') (take (3 * r .faces) faces')) old new s →
+      Replied wanted (outcomeTold wanted unit o) old new s
+  outcome-replied wanted unit {old} {new} {s} done =
       let points-are = over-taken (o .points) points (3 * r .points) points-count points-out in
       let faces-are = over-taken (o .faces) faces (3 * r .faces) faces-count faces-out in
-      let text-is : answerText unit r (take (3 * r .points) points') (take (3 * r .faces) faces') ≡ outcomeText unit o =
-      rw (points-are, faces-are) (ap (λ (x : Answer). answerText unit x (o .points) (o .faces)) answered) in
-      subst (λ (t : List ℕ). Texted t old new s) text-is done
+      let told-is : answerTold wanted unit r (take (3 * r .points) points') (take (3 * r .faces) faces') ≡ outcomeTold wanted unit o =
+      rw (points-are, faces-are) (ap (λ (x : Answer). answerTold wanted unit x (o .points) (o .faces)) answered) in
+      subst (λ (t : Told). Replied wanted t old new s) told-is done
+
+-- the parts of an answer's mesh are small
+pub parts-small : {unit : ℕ} {r : Answer} {points : List Float} {faces : List ℕ} → Shown unit r points faces →
+    Small unit (take (3 * r .points) points) (take (3 * r .faces) faces)
+parts-small {unit} {r} {points} {faces} there =
+    let points-long : length (take (3 * r .points) points) ≡ 3 * r .points = length-take-le (3 * r .points) points (there .points-there) in
+    let faces-long : length (take (3 * r .faces) faces) ≡ 3 * r .faces = length-take-le (3 * r .faces) faces (there .faces-there) in
+    record {
+      unit-known = there .unit-known;
+      points-by-three = omega arith;
+      faces-by-three = omega arith;
+      points-most = omega (arith, there .points-there, there .points-most);
+      faces-most = omega (arith, there .faces-there, there .faces-most);
+    }
 
 -- ---- the file's mesh
 

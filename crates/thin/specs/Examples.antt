@@ -36,7 +36,7 @@ use Rattle.text.specs.Digits.{digits, digitCount, decimal}
 use Rattle.text.specs.Lines.{linesTo}
 use Rattle.listing.specs.Texts.{refusalText, headText, meshText}
 use Rattle.listing.specs.Examples.{squareListing, refusalListing}
-use Rattle.thin.specs.Replies.{replyBy, replyOf}
+use Rattle.thin.specs.Replies.{replyBy, replyOf, listingOf}
 
 -- the example square as a file: (0,0,0) (2,0,0) (2,2,0) (0,2,0) (1,1,0), millimetres, ratio 0.5, with flags
 abbrev squareFile : ℕ → List ℕ
@@ -52,6 +52,6 @@ squareFile flags =
     })
 
 -- its listing, and its refusal with preserve on
-pub examples-hold : map replyOf (squareFile 0 ∷ squareFile 1 ∷ []) ≡ squareListing ∷ refusalListing ∷ []
+pub examples-hold : map listingOf (squareFile 0 ∷ squareFile 1 ∷ []) ≡ squareListing ∷ refusalListing ∷ []
 unfolding outcome outcomeBy partsIn foldsWalked lastMesh targetOf startOf startMesh gathered rulesOf mergedVertex fairPoints numbersOf renumbered placeIn used foldList walk after answer chosen tried opened started least order budget foldOf pairsBelow foldedMesh allowed fairFace foldedFaces borderCount borderPoint without those every some below lists.sum placeOf fallback cheaper tested stands solved eligible pairCost pairPlace pairLength pairQuadric inverse errorAt planeOf unitNormal allFinite normal norm root rootBits finiteRoot bitsRoot.largest halfway fourfold steps floatKey orderKey narrowed cut target flatMap verdictOf contentsVerdict faceVerdict firstOf span climb size odd units round neg ieee.sum add sub mul div lt eq le ofInt toUnsigned isNan ofFields ofBits toBits replyOf replyBy asFours recordsBytes scanOf recordFault optionsFault fourBytes numbersFrom meshText headText refusalText linesTo decimal digitCount digits
 examples-hold = refl

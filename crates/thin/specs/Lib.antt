@@ -1,3 +1,4 @@
--- What the program writes, by what it reads.
+-- What the program makes of what it reads.
 pub mod Replies
+pub mod Contracts
 pub mod Examples

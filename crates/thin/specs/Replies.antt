@@ -1,8 +1,9 @@
--- The text that the program writes, for any bytes that it reads.
+-- What the program makes of any bytes that it reads: the listing or the file of the thinned mesh, or a refusal.
 use Prim.Native.Nat.{ℕ, zero, suc, _*_, _≤_}
 use mathlib.Core.Path.{_≡_}
-use mathlib.Core.List.{List}
-use lib.ListN.{length}
+use mathlib.Core.Logic.{_⊎_}
+use mathlib.Core.List.{List, _++_}
+use lib.ListN.{length, take}
 use lib.Ieee.{Float}
 use Rattle.meaning.specs.Input.{Input}
 use Rattle.meaning.specs.declared.Answer.{Answer}
@@ -14,27 +15,37 @@ use Rattle.scanfile.specs.declared.Scan.{Scan}
 use Rattle.scanfile.specs.declared.Scan.the-variants.{Good, Bad}
 use Rattle.scanfile.specs.Scans.{scanOf}
 use Rattle.scanfile.specs.Contents.{pointsOf, faceNumbersOf}
-use Rattle.listing.specs.declared.Printed.{Printed}
-use Rattle.listing.specs.declared.Printed.the-variants.{Bytes, NoRoom}
+use Rattle.scanwriter.specs.Written.{scanBytes}
+use Rattle.text.specs.Words.{ascii}
 use Rattle.listing.specs.Texts.{refusalText, meshText}
-use Rattle.lists.specs.Lists.{overlaid}
-use Rattle.thin.specs.declared.Got.{Got}
-use Rattle.thin.specs.declared.Got.the-variants as got
+use Rattle.wording.specs.Meanings.{wordsLine}
+use Rattle.thin.specs.declared.replies.Wanted.{Wanted}
+use Rattle.thin.specs.declared.replies.Wanted.the-variants.{Listing, File}
 
 -- ---- the reply
 
--- a number's text: 0 has the mesh, and any other is a refusal
-abbrev pub textBy : ℕ → List ℕ → List ℕ → List ℕ
-textBy zero mesh refusal = mesh
-textBy (suc n) mesh refusal = refusal
+-- what the program answers with: the thinned mesh, as the bytes that were asked for; or a refusal's number and place
+pub data Told : Type 0 where
+  mesh : List ℕ → Told
+  refusal : ℕ → ℕ → Told
 
--- the text of an answer, with the points and faces of its mesh
-abbrev pub answerText : ℕ → Answer → List Float → List ℕ → List ℕ
-answerText unit r points faces = textBy (r .number) (meshText unit (r .folds) points faces) (refusalText (r .number) (r .place))
+-- a mesh as it was asked for: document 01's listing, or a scan file
+abbrev pub meshBytes : Wanted → (unit folds : ℕ) → List Float → List ℕ → List ℕ
+meshBytes Listing unit folds points faces = meshText unit folds points faces
+meshBytes File unit folds points faces = scanBytes unit points faces
 
--- the text of an outcome
-abbrev pub outcomeText : ℕ → Outcome → List ℕ
-outcomeText unit o = answerText unit (o .answer) (o .points) (o .faces)
+-- a number's reply: 0 has the mesh, and any other is a refusal
+abbrev pub toldBy : (number place : ℕ) → List ℕ → Told
+toldBy zero place bytes = mesh bytes
+toldBy (suc n) place bytes = refusal (suc n) place
+
+-- the reply of an answer, with the points and faces of its mesh
+abbrev pub answerTold : Wanted → ℕ → Answer → List Float → List ℕ → Told
+answerTold wanted unit r points faces = toldBy (r .number) (r .place) (meshBytes wanted unit (r .folds) points faces)
+
+-- the reply of an outcome
+abbrev pub outcomeTold : Wanted → ℕ → Outcome → Told
+outcomeTold wanted unit o = answerTold wanted unit (o .answer) (o .points) (o .faces)
 
 -- the options that a file's head has
 abbrev pub headOptions : Head → Options
@@ -52,43 +63,27 @@ callOf head points faces =
     }
 
 -- the reply to a file that is refused, and to one that is good
-unfoldable pub replyBy : List ℕ → Scan → List ℕ
-replyBy bytes (Bad number place) = refusalText number place
-replyBy bytes (Good head) =
-    outcomeText (head .unit)
+unfoldable pub replyBy : Wanted → List ℕ → Scan → Told
+replyBy wanted bytes (Bad number place) = refusal number place
+replyBy wanted bytes (Good head) =
+    outcomeTold wanted (head .unit)
     (outcome (callOf head (pointsOf bytes (head .points)) (faceNumbersOf bytes (head .points) (head .faces))))
 
 -- the reply to any bytes
-unfoldable pub replyOf : List ℕ → List ℕ
-replyOf bytes = replyBy bytes (scanOf bytes)
+unfoldable pub replyOf : Wanted → List ℕ → Told
+replyOf wanted bytes = replyBy wanted bytes (scanOf bytes)
 
--- ---- what the program's functions ask and leave
+-- ---- as bytes
 
--- how many bytes a listing took
-abbrev pub sizeIn : Printed → ℕ
-sizeIn (Bytes n) = n
-sizeIn NoRoom = 0
+-- the bytes of a reply: those of the mesh, or the refusal's line
+abbrev pub toldBytes : Told → List ℕ
+toldBytes (mesh bytes) = bytes
+toldBytes (refusal number place) = refusalText number place
 
--- a text stands at the beginning, the rest is as it came, and the answer is the text's length
-pub record Texted (text old new : List ℕ) (r : ℕ) : Type 0 where
-  pub written : new ≡ overlaid text old
-  pub counted : r ≡ length text
-  pub within : r ≤ length new
+-- what document 01's program prints, for any bytes that it reads
+abbrev pub listingOf : List ℕ → List ℕ
+listingOf bytes = toldBytes (replyOf Listing bytes)
 
--- an answer's mesh is there, and is no larger than the program's memory
-pub record Shown (r : Answer) (points : List Float) (faces : List ℕ) : Type 0 where
-  pub points-there : 3 * r .points ≤ length points
-  pub faces-there : 3 * r .faces ≤ length faces
-  pub points-most : length points ≤ 384
-  pub faces-most : length faces ≤ 768
-
--- how many bytes were read
-abbrev pub sizeGot : Got → ℕ
-sizeGot (got.Bytes n) = n
-sizeGot got.Failed = 0
-
--- No more bytes were read than there is room for, and there is as much room as before. Which bytes they are hangs on what `read` of the C library does, whose
--- contract says nothing of them.
-pub record ReadIn (r : Got) (old new : List ℕ) : Type 0 where
-  pub within : sizeGot r ≤ length new
-  pub same-length : length new ≡ length old
+-- a refusal's line on standard error
+abbrev pub complaint : (number place : ℕ) → List ℕ
+complaint number place = ascii "thin: " ++ wordsLine number place

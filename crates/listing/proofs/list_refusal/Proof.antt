@@ -2,7 +2,7 @@
 use borrow.Author.Needs.{needs}
 use borrow.Author.Tests.{le-leb, lt-leb}
 use Rattle.listing.specs.Texts.{refusalText}
-use Rattle.text.proofs.StoreLaws.{both}
+use Rattle.lists.proofs.PutLaws.{both}
 use Rattle.listing.proofs.TextLaws.{not-printed, all-printed}
 use Rattle.listing.proofs.list_refusal.Statement.{statement}
 use Rattle.listing.proofs.list_refusal.Tie as tie

@@ -1,6 +1,6 @@
 -- `listing::put_face` meets its contract, one part after another. Assumes nothing.
 use borrow.Author.Needs.{needs}
-use Rattle.text.proofs.StoreLaws.{both}
+use Rattle.lists.proofs.PutLaws.{both}
 use Rattle.listing.proofs.put_face.Statement.{statement}
 use Rattle.listing.proofs.put_face.Tie as tie
 

@@ -6,8 +6,9 @@ use mathlib.Core.Path.{_≡_}
 use borrow.Author.Needs.{needs}
 use Rattle.text.specs.Lines.{linesTo}
 use Rattle.listing.specs.Texts.{faceLine}
-use Rattle.text.specs.Contracts.{Put}
-use Rattle.text.proofs.StoreLaws.{none, line-more}
+use Rattle.lists.specs.Puts.{Put}
+use Rattle.lists.proofs.PutLaws.{none}
+use Rattle.text.proofs.LineLaws.{line-more}
 use Rattle.listing.proofs.put_faces.Statement.{statement}
 use Rattle.listing.proofs.put_faces.Tie as tie
 

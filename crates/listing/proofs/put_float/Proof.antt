@@ -1,7 +1,7 @@
 -- `listing::put_float` meets its contract, one part after another. Assumes nothing.
 use mathlib.Core.Path.{sym}
 use borrow.Author.Needs.{needs}
-use Rattle.text.proofs.StoreLaws.{both}
+use Rattle.lists.proofs.PutLaws.{both}
 use Rattle.listing.proofs.put_float.Statement.{statement}
 use Rattle.listing.proofs.put_float.Tie as tie
 

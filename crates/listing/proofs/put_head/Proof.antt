@@ -1,7 +1,7 @@
 -- `listing::put_head` meets its contract, one line after another. Assumes nothing.
 use borrow.Author.Needs.{needs}
 use Rattle.listing.specs.Texts.{headText}
-use Rattle.text.proofs.StoreLaws.{both}
+use Rattle.lists.proofs.PutLaws.{both}
 use Rattle.listing.proofs.put_head.Statement.{statement}
 use Rattle.listing.proofs.put_head.Tie as tie
 

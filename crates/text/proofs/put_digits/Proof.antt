@@ -8,7 +8,7 @@ use borrow.Author.Needs.{needs}
 use lib.ListN.{length, length-set}
 use lib.Seq.{sets}
 use Rattle.text.specs.Digits.{digits}
-use Rattle.text.proofs.StoreLaws.{put}
+use Rattle.lists.proofs.PutLaws.{put}
 use Rattle.text.proofs.DigitLaws.{digits-length, digit-more}
 use Rattle.text.proofs.put_digits.Statement.{statement}
 use Rattle.text.proofs.put_digits.Tie as tie

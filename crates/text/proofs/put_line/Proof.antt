@@ -1,6 +1,6 @@
 -- `text::put_line` meets its contract, one part after another. Assumes nothing.
 use borrow.Author.Needs.{needs}
-use Rattle.text.proofs.StoreLaws.{both}
+use Rattle.lists.proofs.PutLaws.{both}
 use Rattle.text.proofs.put_line.Statement.{statement}
 use Rattle.text.proofs.put_line.Tie as tie
 

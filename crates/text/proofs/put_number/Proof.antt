@@ -1,6 +1,6 @@
 -- `text::put_number` meets its contract, one part after another. Assumes nothing.
 use borrow.Author.Needs.{needs}
-use Rattle.text.proofs.StoreLaws.{both}
+use Rattle.lists.proofs.PutLaws.{both}
 use Rattle.text.proofs.put_number.Statement.{statement}
 use Rattle.text.proofs.put_number.Tie as tie
 

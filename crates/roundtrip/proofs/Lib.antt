@@ -1,0 +1,2 @@
+-- What follows from the definitions of specs/, and is no code.
+pub mod TripLaws

@@ -1,0 +1,31 @@
+-- `thin::replies::write_file` meets its contract: what fits is written whole, and never refused. Assumes nothing.
+use mathlib.Core.Path.{sym}
+use borrow.Author.Needs.{needs}
+use Rattle.thin.proofs.ReplyLaws.{file-replied, never-refused}
+use Rattle.thin.proofs.replies.write_file.Statement.{statement}
+use Rattle.thin.proofs.replies.write_file.Tie as tie
+
+returns : tie.Need-returns
+returns c =
+    let told = c .before in
+    let called = told .before .before .before .before in
+    file-replied (λ i. called .before .before .before .shared-slice-known .given i) (called .write-scan .ensures) (told .n .given .1)
+
+returns-2 : tie.Need-returns-2
+returns-2 c =
+    let told = c .before in
+    let called = told .before .before .before .before in
+    let start = called .before .before .before .before .before in
+    absurd (never-refused (start .pre .0) (start .pre .1) (called .write-scan .ensures) (told .number .given .1))
+
+pub write-file-spec : {M : Type 1} → statement M
+write-file-spec =
+    tie.close
+    (tie.spec
+    (λ c κs. search needs)
+    (λ c. search needs)
+    (λ c. search needs)
+    (λ c. search needs)
+    returns
+    (λ c. search needs)
+    returns-2)

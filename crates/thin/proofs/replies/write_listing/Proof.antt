@@ -1,0 +1,13 @@
+-- `thin::replies::write_listing` meets its contract: there is room. Assumes nothing.
+use borrow.Author.Needs.{needs}
+use Rattle.thin.proofs.ReplyLaws.{listing-replied}
+use Rattle.thin.proofs.replies.write_listing.Statement.{statement}
+use Rattle.thin.proofs.replies.write_listing.Tie as tie
+
+returns : tie.Need-returns
+returns c =
+    let start = c .before .before .before .before .before .before .before .before in
+    listing-replied _ _ _ _ (start .pre .0) (start .pre .1) (c .before .before .before .list-mesh .ensures) (c .size-in .ensures)
+
+pub write-listing-spec : {M : Type 1} → statement M
+write-listing-spec = tie.close (tie.spec (λ c κs. search needs) (λ c κs. search needs) (λ c. search needs) returns)
