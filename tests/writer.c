@@ -3,6 +3,7 @@
    They are compared on the answer and on every byte of the lent buffer, written or not; the inputs must stay as they
    came, and what was written is read back. All that is lent ends against a page that can't be touched. */
 #define _GNU_SOURCE
+#include "../include/hjoltravan.h"
 #include <stdbool.h>
 #include <stdint.h>
 #include <stdio.h>
@@ -11,10 +12,7 @@
 #include <sys/mman.h>
 #include <unistd.h>
 
-/* The answer: number, place, bytes written. */
-void hjoltravan_write_scan(uint32_t unit, const float *points, size_t points_len, const uint32_t *faces,
-                           size_t faces_len, uint8_t *file, size_t file_len, uint32_t answer[3]);
-
+/* The answer. */
 enum { NUMBER, PLACE, WRITTEN, CELLS };
 enum { MOST = 4638, BEFORE = 64, SLACK = 1000 };
 enum { FAR_POINTS = 3 * 100000, FAR_FACES = 3 * 200000, FAR_FILE = 30 + 4 * FAR_POINTS + 4 * FAR_FACES };
