@@ -5,6 +5,7 @@ use mathlib.Core.Bool.{Bool, _&&_}
 use lib.Dec.{leb}
 use lib.ListN.{length, getD}
 use lib.Ieee.{Float, binary32, nan, toBits}
+use Rattle.text.specs.Words.{ascii}
 use Rattle.text.specs.Digits.{decimal, hexadecimal}
 use Rattle.text.specs.Lines.{numberThen, wordLine, linesTo}
 
@@ -23,31 +24,25 @@ pointLine points k =
 abbrev pub faceLine : List ℕ → ℕ → List ℕ
 faceLine faces k = numberThen (getD faces (3 * k) 0) 32 ++ (numberThen (getD faces (3 * k + 1) 0) 32 ++ numberThen (getD faces (3 * k + 2) 0) 10)
 
--- ---- words, each with the space after it
+-- ---- words, each with the space after it, and place with one before it too
 
--- answer
 abbrev pub answerWord : List ℕ
-answerWord = 97 ∷ 110 ∷ 115 ∷ 119 ∷ 101 ∷ 114 ∷ 32 ∷ []
+answerWord = ascii "answer "
 
--- place, with the space before it too
 abbrev pub placeWord : List ℕ
-placeWord = 32 ∷ 112 ∷ 108 ∷ 97 ∷ 99 ∷ 101 ∷ 32 ∷ []
+placeWord = ascii " place "
 
--- unit
 abbrev pub unitWord : List ℕ
-unitWord = 117 ∷ 110 ∷ 105 ∷ 116 ∷ 32 ∷ []
+unitWord = ascii "unit "
 
--- folds
 abbrev pub foldsWord : List ℕ
-foldsWord = 102 ∷ 111 ∷ 108 ∷ 100 ∷ 115 ∷ 32 ∷ []
+foldsWord = ascii "folds "
 
--- vertices
 abbrev pub verticesWord : List ℕ
-verticesWord = 118 ∷ 101 ∷ 114 ∷ 116 ∷ 105 ∷ 99 ∷ 101 ∷ 115 ∷ 32 ∷ []
+verticesWord = ascii "vertices "
 
--- faces
 abbrev pub facesWord : List ℕ
-facesWord = 102 ∷ 97 ∷ 99 ∷ 101 ∷ 115 ∷ 32 ∷ []
+facesWord = ascii "faces "
 
 -- ---- whole texts
 

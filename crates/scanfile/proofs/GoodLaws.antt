@@ -14,7 +14,7 @@ use Rattle.records.specs.Records.{sizeAt, kindAt}
 use Rattle.scanfile.specs.declared.Head.{Head}
 use Rattle.scanfile.specs.declared.Scan.the-variants.{Good}
 use Rattle.scanfile.specs.Layout.{secondAt, thirdAt, thirdAfter, endOf}
-use Rattle.scanfile.specs.Faults.{unitIn, flagsIn, recordFault, optionsFault}
+use Rattle.scanfile.specs.Faults.{unitIn, flagsIn, recordFault, knownUnit, optionsFault}
 use Rattle.scanfile.specs.Scans.{headOf, refuse, scanOf}
 use Rattle.scanfile.specs.Facts.{GoodFile}
 use Rattle.scanfile.proofs.FaultLaws.{GoodRecord, passed, passes, options-size, whole-size}
@@ -28,10 +28,10 @@ options-passed false f e = absurd (omega arith)
 options-passed true true e = absurd (omega arith)
 options-passed true false e = (refl, refl)
 
-unit-of : (u : ℕ) → eqb u 1 || eqb u 2 ≡ true → (u ≡ 1) ⊎ (u ≡ 2)
+pub unit-of : (u : ℕ) → knownUnit u ≡ true → (u ≡ 1) ⊎ (u ≡ 2)
 unit-of u known = either-of (eqb u 1) (eqb u 2) known (λ e. inl (eqb-true u 1 e)) (λ e. inr (eqb-true u 2 e))
 
-known-unit : (u : ℕ) → (u ≡ 1) ⊎ (u ≡ 2) → eqb u 1 || eqb u 2 ≡ true
+pub known-unit : (u : ℕ) → (u ≡ 1) ⊎ (u ≡ 2) → knownUnit u ≡ true
 known-unit u (inl e) = rw e refl
 known-unit u (inr e) = rw e refl
 
@@ -74,7 +74,7 @@ good-file bytes h e =
     let first = passed bytes 1 0 (p .none-refused .first) in
     let second = passed bytes 2 secondAt (p .none-refused .second) in
     let third = passed bytes 3 (thirdAt bytes) (p .none-refused .third) in
-    let o = options-passed (eqb (unitIn bytes) 1 || eqb (unitIn bytes) 2) (ltb 3 (flagsIn bytes)) (p .none-refused .options) in
+    let o = options-passed (knownUnit (unitIn bytes)) (ltb 3 (flagsIn bytes)) (p .none-refused .options) in
     let points : h .points ≡ sizeAt bytes secondAt / 12 = ap (λ (x : Head). x .points) (p .head-is) in
     let faces : h .faces ≡ sizeAt bytes (thirdAt bytes) / 12 = ap (λ (x : Head). x .faces) (p .head-is) in
     let second-size : sizeAt bytes secondAt ≡ 12 * h .points = omega (arith, whole-size refl second) in

@@ -3,7 +3,6 @@
 use Prim.Native.Nat.{ℕ, _+_, _*_, _/_, _%_, _≤_}
 use native.Mathlib.Omega.{arith}
 use mathlib.Core.Path.{_≡_, refl, sym, ap, _∙_}
-use mathlib.Core.Logic.{_⊎_, inl, inr}
 use mathlib.Core.List.{List, [], map}
 use mathlib.Core.Bool.{Bool, true, false, not, _||_, cond}
 use lib.Dec.{ltb, eqb}
@@ -18,6 +17,7 @@ use Rattle.records.proofs.WordLaws.{fours-length}
 use Rattle.scanfile.specs.Layout.{mostPoints, mostFaces, secondAt, thirdAfter}
 use Rattle.scanfile.specs.Faults.{knownUnit}
 use Rattle.scanfile.specs.Files.{optionsRecord}
+use Rattle.scanfile.proofs.GoodLaws.{unit-of, known-unit}
 use Rattle.scanwriter.specs.declared.Writing.{Writing}
 use Rattle.scanwriter.specs.declared.Writing.the-variants.{Bytes, Refused}
 use Rattle.scanwriter.specs.Written.{scanContents, scanBytes, scanRoom, writingOf, bufferAfter, ScanWritten}
@@ -47,11 +47,6 @@ none-holds true true true false false true third end n h = let z : _≡_ {A = �
 none-holds true true true false false false third end n h =
     record { points-by-three = refl; faces-by-three = refl; unit-known = refl; few-points = refl; few-faces = refl; enough = refl; counted = cc }
 
-known : (unit : ℕ) (a b : Bool) → eqb unit 1 ≡ a → eqb unit 2 ≡ b → a || b ≡ true → (unit ≡ 1) ⊎ (unit ≡ 2)
-known unit true b one two h = inl (eqb-true unit 1 one)
-known unit false true one two h = inr (eqb-true unit 2 two)
-known unit false false one two h = let z : _≡_ {A = Bool} false true = h in absurd (omega (arith, ap (λ (t : Bool). cond {A = ℕ} t 1 0) z))
-
 -- what was given fits, and how many bytes it takes
 pub fits : (unit : ℕ) (points : List Float) (faces file : List ℕ) (n : ℕ) → writingOf unit (length points) (length faces) (length file) ≡ Bytes n →
     ScanFits unit points faces file × (n ≡ scanRoom (length points) (length faces))
@@ -66,17 +61,13 @@ fits unit points faces file n e =
       record {
         points-by-three = omega (arith, eqb-true (p % 3) 0 (t .points-by-three));
         faces-by-three = omega (arith, eqb-true (f % 3) 0 (t .faces-by-three));
-        unit-known = known unit _ _ refl refl (t .unit-known);
+        unit-known = unit-of unit (t .unit-known);
         points-most = ltb-false _ _ (t .few-points);
         faces-most = ltb-false _ _ (t .few-faces);
         room = ltb-false _ _ (t .enough);
       },
       t .counted,
     )
-
-is-known : (unit : ℕ) → (unit ≡ 1) ⊎ (unit ≡ 2) → knownUnit unit ≡ true
-is-known unit (inl e) = rw e refl
-is-known unit (inr e) = rw e refl
 
 -- and what fits is not refused
 pub taken : {unit : ℕ} {points : List Float} {faces file : List ℕ} → ScanFits unit points faces file →
@@ -87,7 +78,7 @@ taken {unit} {points} {faces} {file} fit =
     let f = length faces in
     let points-even : p % 3 ≡ 0 = omega arith in
     let faces-even : f % 3 ≡ 0 = omega arith in
-    rw (points-even, faces-even, is-known unit (fit .unit-known), le-ltb _ _ (fit .points-most), le-ltb _ _ (fit .faces-most), le-ltb _ _ (fit .room)) refl
+    rw (points-even, faces-even, known-unit unit (fit .unit-known), le-ltb _ _ (fit .points-most), le-ltb _ _ (fit .faces-most), le-ltb _ _ (fit .room)) refl
 
 -- ---- the three records, one after another
 

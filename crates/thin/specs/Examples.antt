@@ -1,7 +1,8 @@
--- Document 01's example and its refusal, from the bytes of the file to the bytes of the listing. The proof computes them from the definitions.
+-- Document 01's example and its refusal, from the bytes of the file to the bytes of the listing, and to those of the thinned file. The proof computes
+-- them from the definitions.
 use Prim.Native.Nat.{ℕ}
 use mathlib.Core.Path.{_≡_, refl}
-use mathlib.Core.List.{List, [], _∷_, map, flatMap}
+use mathlib.Core.List.{List, [], _∷_, flatMap}
 use lib.Ieee as ieee
 use lib.Ieee.{span, climb, size, odd, units, round, neg, add, sub, mul, div, lt, eq, le, ofInt, toUnsigned, isNan, ofFields, ofBits, toBits}
 use Rattle.bits.specs.Cut.{cut, target}
@@ -36,7 +37,8 @@ use Rattle.text.specs.Digits.{digits, digitCount, decimal}
 use Rattle.text.specs.Lines.{linesTo}
 use Rattle.listing.specs.Texts.{refusalText, headText, meshText}
 use Rattle.listing.specs.Examples.{squareListing, refusalListing}
-use Rattle.thin.specs.Replies.{replyBy, replyOf, listingOf}
+use Rattle.thin.specs.declared.replies.Wanted.the-variants.{Listing, File}
+use Rattle.thin.specs.Replies.{mesh, refusal, replyBy, replyOf, toldBytes}
 
 -- the example square as a file: (0,0,0) (2,0,0) (2,2,0) (0,2,0) (1,1,0), millimetres, ratio 0.5, with flags
 abbrev squareFile : ℕ → List ℕ
@@ -51,7 +53,26 @@ squareFile flags =
       faces = 0 ∷ 1 ∷ 4 ∷ 1 ∷ 2 ∷ 4 ∷ 2 ∷ 3 ∷ 4 ∷ 3 ∷ 0 ∷ 4 ∷ [];
     })
 
--- its listing, and its refusal with preserve on
-pub examples-hold : map listingOf (squareFile 0 ∷ squareFile 1 ∷ []) ≡ squareListing ∷ refusalListing ∷ []
+-- the thinned square as a file: four points, two faces, and zeros for flags, ratio and limit
+abbrev thinnedFile : List ℕ
+thinnedFile =
+    fileOf
+    (record {
+      unit = 1;
+      flags = 0;
+      ratio = 0;
+      limit = 0;
+      points = 0x4000_0000 ∷ 0 ∷ 0 ∷ 0x4000_0000 ∷ 0x4000_0000 ∷ 0 ∷ 0 ∷ 0 ∷ 0 ∷ 0 ∷ 0x4000_0000 ∷ 0 ∷ [];
+      faces = 0 ∷ 1 ∷ 2 ∷ 1 ∷ 3 ∷ 2 ∷ [];
+    })
+
+-- its listing, its refusal with preserve on, and its file
+pub examples-hold : (replyOf Listing (squareFile 0) ∷ replyOf Listing (squareFile 1) ∷ replyOf File (squareFile 0) ∷ []) ≡
+    (mesh squareListing ∷ refusal 10 4 ∷ mesh thinnedFile ∷ [])
 unfolding outcome outcomeBy partsIn foldsWalked lastMesh targetOf startOf startMesh gathered rulesOf mergedVertex fairPoints numbersOf renumbered placeIn used foldList walk after answer chosen tried opened started least order budget foldOf pairsBelow foldedMesh allowed fairFace foldedFaces borderCount borderPoint without those every some below lists.sum placeOf fallback cheaper tested stands solved eligible pairCost pairPlace pairLength pairQuadric inverse errorAt planeOf unitNormal allFinite normal norm root rootBits finiteRoot bitsRoot.largest halfway fourfold steps floatKey orderKey narrowed cut target flatMap verdictOf contentsVerdict faceVerdict firstOf span climb size odd units round neg ieee.sum add sub mul div lt eq le ofInt toUnsigned isNan ofFields ofBits toBits replyOf replyBy asFours recordsBytes scanOf recordFault optionsFault fourBytes numbersFrom meshText headText refusalText linesTo decimal digitCount digits
 examples-hold = refl
+
+-- the refusal's line
+pub refusal-line : toldBytes (refusal 10 4) ≡ refusalListing
+unfolding refusalText decimal digitCount digits
+refusal-line = refl
