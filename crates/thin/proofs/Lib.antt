@@ -2,3 +2,5 @@
 pub mod OutcomeLaws
 pub mod ReplyLaws
 pub mod PrefixLaws
+pub mod FitLaws
+pub mod AgainLaws

@@ -29,7 +29,7 @@ unfolding partsIn
 parts-length rules m [] = refl
 parts-length rules m (x ∷ xs) = omega (arith, parts-length rules m xs)
 
-thinned-counted : (i : Input) → Counted (thinnedOutcome i)
+pub thinned-counted : (i : Input) → Counted (thinnedOutcome i)
 thinned-counted i =
     let faces = lastMesh i .faces in
     record {

@@ -94,7 +94,7 @@ listing-replied unit folds points faces {old} room small done size =
     }
 
 -- the file of a mesh: it fits
-small-fits : {unit : ℕ} {points : List Float} {faces out : List ℕ} → 12288 ≤ length out → Small unit points faces → ScanFits unit points faces out
+pub small-fits : {unit : ℕ} {points : List Float} {faces out : List ℕ} → 12288 ≤ length out → Small unit points faces → ScanFits unit points faces out
 small-fits room small =
     record {
       points-by-three = small .points-by-three;
