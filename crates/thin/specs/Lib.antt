@@ -1,4 +1,2 @@
--- What the program makes of what it reads.
-pub mod Replies
+-- What the program asks of its files.
 pub mod Contracts
-pub mod Examples

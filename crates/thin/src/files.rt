@@ -3,7 +3,8 @@
 ghost use Prim.Native.Nat.{_+_, _≤_, _<_};
 ghost use lib.ListN.{length};
 ghost use Rattle.lists.specs.Puts.{Put};
-ghost use Rattle.thin.specs.Contracts.{IsScan, ReadIn, MadeIn, nameBeside};
+ghost use Rattle.replies.specs.Contracts.{IsScan};
+ghost use Rattle.thin.specs.Contracts.{ReadIn, MadeIn, nameBeside};
 use libc::STDERR_FILENO;
 use libc::STDIN_FILENO;
 use libc::STDOUT_FILENO;

@@ -1,11 +1,10 @@
 // The program: a scan file in; the thinned mesh out, as document 01's listing or as a scan file. A refusal is printed, and told in plain words.
 ghost use mathlib.Core.Path.{_≡_};
 ghost use lib.ListN.{length};
-ghost use Rattle.thin.specs.declared.replies.Wanted.the-variants.{File};
-ghost use Rattle.thin.specs.Contracts.{IsScan};
+ghost use Rattle.replies.specs.declared.Wanted.the-variants.{File};
+ghost use Rattle.replies.specs.Contracts.{IsScan};
 
 mod files;
-mod replies;
 
 use files::Got;
 use libc::STDERR_FILENO;

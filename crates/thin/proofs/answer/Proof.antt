@@ -2,7 +2,7 @@
 use mathlib.Core.Path.{sym}
 use borrow.Author.Needs.{needs}
 use lib.Seq.{length-take-le}
-use Rattle.thin.proofs.ReplyLaws.{reply-within}
+use Rattle.replies.proofs.ReplyLaws.{reply-within}
 use Rattle.thin.proofs.answer.Statement.{statement}
 use Rattle.thin.proofs.answer.Tie as tie
 

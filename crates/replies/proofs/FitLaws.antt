@@ -47,7 +47,7 @@ use Rattle.meaning.specs.Outcome.{Outcome, rulesIn, startOf, targetOf, lastMesh
 use Rattle.promises.specs.Steps.{stateAt, budgetOf}
 use Rattle.promises.proofs.Ended.{start-count, start-sound, states-sound, states-points}
 use Rattle.checks.proofs.VerdictLaws as verdicts
-use Rattle.thin.proofs.OutcomeLaws.{thinned-counted}
+use Rattle.replies.proofs.OutcomeLaws.{thinned-counted}
 
 -- ---- points of f32s
 

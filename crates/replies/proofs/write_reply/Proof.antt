@@ -1,9 +1,9 @@
--- `thin::replies::write_reply` meets its contract: the file is refused or good, and each has its reply. Assumes nothing.
+-- `replies::write_reply` meets its contract: the file is refused or good, and each has its reply. Assumes nothing.
 use mathlib.Core.Path.{sym, _∙_}
 use borrow.Author.Needs.{needs}
-use Rattle.thin.specs.Replies.{replyBy, replyOf}
-use Rattle.thin.proofs.replies.write_reply.Statement.{statement}
-use Rattle.thin.proofs.replies.write_reply.Tie as tie
+use Rattle.replies.specs.Replies.{replyBy, replyOf}
+use Rattle.replies.proofs.write_reply.Statement.{statement}
+use Rattle.replies.proofs.write_reply.Tie as tie
 
 write-good-requires : tie.Need-write-good-requires
 write-good-requires c κs = (search needs, sym (c .before .before .before .before .read-scan .ensures) ∙ c .before .before .head .given .1)

@@ -11,8 +11,8 @@ use Rattle.scanfile.specs.declared.Scan.the-variants.{Good, Bad}
 use Rattle.scanfile.specs.Scans.{scanOf}
 use Rattle.scanfile.proofs.GoodLaws.{good-longest}
 use Rattle.scanfile.proofs.PrefixLaws.{prefix-enough}
-use Rattle.thin.specs.declared.replies.Wanted.{Wanted}
-use Rattle.thin.specs.Replies.{replyBy, replyOf}
+use Rattle.replies.specs.declared.Wanted.{Wanted}
+use Rattle.replies.specs.Replies.{replyBy, replyOf}
 
 pub reply-prefix : (wanted : Wanted) (n : ℕ) → 4639 ≤ n → (bytes : List ℕ) → replyOf wanted (take n bytes) ≡ replyOf wanted bytes
 unfolding replyOf replyBy

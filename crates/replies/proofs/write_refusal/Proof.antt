@@ -1,8 +1,8 @@
--- `thin::replies::write_refusal` meets its contract: there is room. Assumes nothing.
+-- `replies::write_refusal` meets its contract: there is room. Assumes nothing.
 use borrow.Author.Needs.{needs}
-use Rattle.thin.proofs.ReplyLaws.{refusal-replied}
-use Rattle.thin.proofs.replies.write_refusal.Statement.{statement}
-use Rattle.thin.proofs.replies.write_refusal.Tie as tie
+use Rattle.replies.proofs.ReplyLaws.{refusal-replied}
+use Rattle.replies.proofs.write_refusal.Statement.{statement}
+use Rattle.replies.proofs.write_refusal.Tie as tie
 
 returns : tie.Need-returns
 returns c = refusal-replied _ _ _ (c .before .before .before .before .before .before .pre) (c .before .before .before .list-refusal .ensures) (c .size-in .ensures)

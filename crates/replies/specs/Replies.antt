@@ -19,8 +19,8 @@ use Rattle.scanwriter.specs.Written.{scanBytes}
 use Rattle.text.specs.Words.{ascii}
 use Rattle.listing.specs.Texts.{refusalText, meshText}
 use Rattle.wording.specs.Meanings.{wordsLine}
-use Rattle.thin.specs.declared.replies.Wanted.{Wanted}
-use Rattle.thin.specs.declared.replies.Wanted.the-variants.{Listing, File}
+use Rattle.replies.specs.declared.Wanted.{Wanted}
+use Rattle.replies.specs.declared.Wanted.the-variants.{Listing, File}
 
 -- ---- the reply
 

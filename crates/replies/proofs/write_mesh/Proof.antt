@@ -1,7 +1,7 @@
--- `thin::replies::write_mesh` meets its contract, by what was asked for. Assumes nothing.
+-- `replies::write_mesh` meets its contract, by what was asked for. Assumes nothing.
 use borrow.Author.Needs.{needs}
-use Rattle.thin.proofs.replies.write_mesh.Statement.{statement}
-use Rattle.thin.proofs.replies.write_mesh.Tie as tie
+use Rattle.replies.proofs.write_mesh.Statement.{statement}
+use Rattle.replies.proofs.write_mesh.Tie as tie
 
 returns : tie.Need-returns
 returns c = rw (c .before .before .before .before .enum-told .given .1) (c .before .before .write-listing .ensures)

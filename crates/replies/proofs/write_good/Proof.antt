@@ -1,4 +1,4 @@
--- `thin::replies::write_good` meets its contract: a good file's points and faces are all there, and are what is thinned. Assumes nothing.
+-- `replies::write_good` meets its contract: a good file's points and faces are all there, and are what is thinned. Assumes nothing.
 use Prim.Native.Nat.{_*_, _≤_}
 use native.Mathlib.Omega.{arith}
 use mathlib.Core.Path.{sym}
@@ -8,10 +8,10 @@ use lib.Seq.{length-take-le}
 use Rattle.scanfile.specs.Contents.{pointsOf, faceNumbersOf}
 use Rattle.scanfile.specs.Facts.{GoodFile}
 use Rattle.scanfile.proofs.GoodLaws.{good-file}
-use Rattle.thin.specs.Replies.{replyBy}
-use Rattle.thin.proofs.ReplyLaws.{over-there, over-taken, points-length, faces-length}
-use Rattle.thin.proofs.replies.write_good.Statement.{statement}
-use Rattle.thin.proofs.replies.write_good.Tie as tie
+use Rattle.replies.specs.Replies.{replyBy}
+use Rattle.replies.proofs.ReplyLaws.{over-there, over-taken, points-length, faces-length}
+use Rattle.replies.proofs.write_good.Statement.{statement}
+use Rattle.replies.proofs.write_good.Tie as tie
 
 -- what is known of the file
 good : (c : tie.Start) → GoodFile (c .args .bytes .now) (c .args .head)

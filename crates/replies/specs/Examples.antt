@@ -37,8 +37,8 @@ use Rattle.text.specs.Digits.{digits, digitCount, decimal}
 use Rattle.text.specs.Lines.{linesTo}
 use Rattle.listing.specs.Texts.{refusalText, headText, meshText}
 use Rattle.listing.specs.Examples.{squareListing, refusalListing}
-use Rattle.thin.specs.declared.replies.Wanted.the-variants.{Listing, File}
-use Rattle.thin.specs.Replies.{mesh, refusal, replyBy, replyOf, toldBytes}
+use Rattle.replies.specs.declared.Wanted.the-variants.{Listing, File}
+use Rattle.replies.specs.Replies.{mesh, refusal, replyBy, replyOf, toldBytes}
 
 -- the example square as a file: (0,0,0) (2,0,0) (2,2,0) (0,2,0) (1,1,0), millimetres, ratio 0.5, with flags
 abbrev squareFile : ℕ → List ℕ

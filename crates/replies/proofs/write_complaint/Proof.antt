@@ -1,8 +1,8 @@
--- `thin::replies::write_complaint` meets its contract, one part after another. Assumes nothing.
+-- `replies::write_complaint` meets its contract, one part after another. Assumes nothing.
 use borrow.Author.Needs.{needs}
 use Rattle.lists.proofs.PutLaws.{both}
-use Rattle.thin.proofs.replies.write_complaint.Statement.{statement}
-use Rattle.thin.proofs.replies.write_complaint.Tie as tie
+use Rattle.replies.proofs.write_complaint.Statement.{statement}
+use Rattle.replies.proofs.write_complaint.Tie as tie
 
 returns : tie.Need-returns
 returns c = both (c .before .before .before .before .before .before .put-word .ensures) (c .before .before .put-words .ensures)

@@ -30,12 +30,12 @@ use Rattle.scanwriter.specs.Written.{scanBytes}
 use Rattle.scanwriter.specs.Contracts.{ScanFits}
 use Rattle.scanwriter.specs.Back.{writtenHead}
 use Rattle.scanwriter.proofs.BackLaws.{reads-back}
-use Rattle.thin.specs.declared.replies.Wanted.{Wanted}
-use Rattle.thin.specs.Replies.{mesh, meshBytes, outcomeTold, callOf, replyBy, replyOf}
-use Rattle.thin.specs.Contracts.{Small}
-use Rattle.thin.proofs.OutcomeLaws.{counted}
-use Rattle.thin.proofs.ReplyLaws.{small-fits, points-length, faces-length}
-use Rattle.thin.proofs.FitLaws.{Fit, each-single, read-single, outcome-fit}
+use Rattle.replies.specs.declared.Wanted.{Wanted}
+use Rattle.replies.specs.Replies.{mesh, meshBytes, outcomeTold, callOf, replyBy, replyOf}
+use Rattle.replies.specs.Contracts.{Small}
+use Rattle.replies.proofs.OutcomeLaws.{counted}
+use Rattle.replies.proofs.ReplyLaws.{small-fits, points-length, faces-length}
+use Rattle.replies.proofs.FitLaws.{Fit, each-single, read-single, outcome-fit}
 
 -- what the library is handed for a good file with the head h, and what comes out
 abbrev pub scanCall : List ℕ → Head → Input

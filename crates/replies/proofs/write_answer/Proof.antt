@@ -1,10 +1,10 @@
--- `thin::replies::write_answer` meets its contract: each return is the reply by its number. Assumes nothing.
+-- `replies::write_answer` meets its contract: each return is the reply by its number. Assumes nothing.
 use mathlib.Core.Path.{sym}
 use borrow.Author.Needs.{needs}
 use lib.Seq.{length-take-le}
-use Rattle.thin.proofs.ReplyLaws.{refused-told, mesh-told, parts-small}
-use Rattle.thin.proofs.replies.write_answer.Statement.{statement}
-use Rattle.thin.proofs.replies.write_answer.Tie as tie
+use Rattle.replies.proofs.ReplyLaws.{refused-told, mesh-told, parts-small}
+use Rattle.replies.proofs.write_answer.Statement.{statement}
+use Rattle.replies.proofs.write_answer.Tie as tie
 
 returns : tie.Need-returns
 returns c = rw (refused-told _ _ _ (c .before .before .before .before .if1 .taken)) (c .before .before .write-refusal .ensures)

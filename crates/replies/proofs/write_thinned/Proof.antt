@@ -1,14 +1,14 @@
--- `thin::replies::write_thinned` meets its contract: the library's call leaves the outcome, and its mesh is replied with. Assumes nothing.
+-- `replies::write_thinned` meets its contract: the library's call leaves the outcome, and its mesh is replied with. Assumes nothing.
 use mathlib.Core.Path.{_≡_}
 use borrow.Author.Needs.{needs}
 use Rattle.meaning.specs.Input.{Input}
 use Rattle.meaning.specs.Call.{Lent, lent, inputOf}
 use Rattle.meaning.specs.Outcome.{Outcome, outcome}
-use Rattle.thin.specs.Replies.{headOptions, callOf}
-use Rattle.thin.proofs.OutcomeLaws.{counted}
-use Rattle.thin.proofs.ReplyLaws.{same-call, shown, outcome-replied}
-use Rattle.thin.proofs.replies.write_thinned.Statement.{statement}
-use Rattle.thin.proofs.replies.write_thinned.Tie as tie
+use Rattle.replies.specs.Replies.{headOptions, callOf}
+use Rattle.replies.proofs.OutcomeLaws.{counted}
+use Rattle.replies.proofs.ReplyLaws.{same-call, shown, outcome-replied}
+use Rattle.replies.proofs.write_thinned.Statement.{statement}
+use Rattle.replies.proofs.write_thinned.Tie as tie
 
 -- where the memory is made, from where the library has answered, and the function's entry
 abbrev made : tie.After-thin → tie.After-work-f64-cells

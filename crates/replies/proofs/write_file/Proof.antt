@@ -1,9 +1,9 @@
--- `thin::replies::write_file` meets its contract: what fits is written whole, and never refused. Assumes nothing.
+-- `replies::write_file` meets its contract: what fits is written whole, and never refused. Assumes nothing.
 use mathlib.Core.Path.{sym}
 use borrow.Author.Needs.{needs}
-use Rattle.thin.proofs.ReplyLaws.{file-replied, never-refused}
-use Rattle.thin.proofs.replies.write_file.Statement.{statement}
-use Rattle.thin.proofs.replies.write_file.Tie as tie
+use Rattle.replies.proofs.ReplyLaws.{file-replied, never-refused}
+use Rattle.replies.proofs.write_file.Statement.{statement}
+use Rattle.replies.proofs.write_file.Tie as tie
 
 returns : tie.Need-returns
 returns c =

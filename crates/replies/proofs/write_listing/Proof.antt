@@ -1,8 +1,8 @@
--- `thin::replies::write_listing` meets its contract: there is room. Assumes nothing.
+-- `replies::write_listing` meets its contract: there is room. Assumes nothing.
 use borrow.Author.Needs.{needs}
-use Rattle.thin.proofs.ReplyLaws.{listing-replied}
-use Rattle.thin.proofs.replies.write_listing.Statement.{statement}
-use Rattle.thin.proofs.replies.write_listing.Tie as tie
+use Rattle.replies.proofs.ReplyLaws.{listing-replied}
+use Rattle.replies.proofs.write_listing.Statement.{statement}
+use Rattle.replies.proofs.write_listing.Tie as tie
 
 returns : tie.Need-returns
 returns c =

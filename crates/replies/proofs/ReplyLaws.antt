@@ -31,13 +31,13 @@ use Rattle.scanwriter.specs.Written.{scanBytes, scanRoom, ScanWritten}
 use Rattle.scanwriter.specs.Contracts.{ScanFits}
 use Rattle.scanwriter.proofs.WritingLaws.{taken}
 use Rattle.scanwriter.proofs.BackLaws.{written-over, written-count, written-bytes, written-within, written-back}
-use Rattle.thin.specs.declared.replies.Wanted.{Wanted}
-use Rattle.thin.specs.declared.replies.Wanted.the-variants.{Listing, File}
-use Rattle.thin.specs.declared.replies.Reply.{Reply}
-use Rattle.thin.specs.declared.replies.Reply.the-variants.{Mesh, Refusal}
-use Rattle.thin.specs.Replies.{Told, mesh, refusal, toldBytes, toldBy, answerTold, outcomeTold, headOptions, callOf}
-use Rattle.thin.specs.Contracts.{sizeIn, sizeOf, replyIn, IsScan, Replied, Small, Shown}
-use Rattle.thin.proofs.OutcomeLaws.{Counted}
+use Rattle.replies.specs.declared.Wanted.{Wanted}
+use Rattle.replies.specs.declared.Wanted.the-variants.{Listing, File}
+use Rattle.replies.specs.declared.Reply.{Reply}
+use Rattle.replies.specs.declared.Reply.the-variants.{Mesh, Refusal}
+use Rattle.replies.specs.Replies.{Told, mesh, refusal, toldBytes, toldBy, answerTold, outcomeTold, headOptions, callOf}
+use Rattle.replies.specs.Contracts.{sizeIn, sizeOf, replyIn, IsScan, Replied, Small, Shown}
+use Rattle.replies.proofs.OutcomeLaws.{Counted}
 
 -- ---- replies from what the libraries leave
 
