@@ -86,7 +86,8 @@ void hjoltravan_thin_folds(const float *points, size_t points_len, const uint32_
 #define HJOLTRAVAN_FILE_MOST_FACES 256
 #define HJOLTRAVAN_FILE_BYTES(V, F) (30 + 12 * (size_t)(V) + 12 * (size_t)(F))
 
-/* Writes a mesh and its unit as a scan file, which the program thin reads: the unit, no flags, ratio and limit 0, the points, the faces.
+/* Writes a mesh and its unit as a scan file, which the program thin reads: the unit, no flags, ratio and limit 0, the points,
+   the faces.
 
    unit                 1 millimetre, 2 micrometre
    points, points_len   x, y, z of each point; written by their bits, a NaN as 7fc00000
@@ -94,14 +95,16 @@ void hjoltravan_thin_folds(const float *points, size_t points_len, const uint32_
    file, file_len       at least HJOLTRAVAN_FILE_BYTES bytes; those past the file's end are never written
    answer               number, place, bytes written (0 on a refusal)
 
+   The mesh isn't looked at: whether its faces name points that there are is for hjoltravan_thin. file and answer may not
+   overlap another part, the inputs included.
+
    The numbers, in the order they are checked (a refusal leaves file as it came):
     1  a list's length is no multiple of 3
    24  the unit is neither 1 nor 2
-   27  more than 128 points (place: 18) or 256 faces (place: 24 + 12V); the offset that their record would have in the file
+   27  more than 128 points (place: 18), or else more than 256 faces (place: 24 + 12V); the place is the offset that their
+       record would have in the file
    31  file is too short
-    0  done
-
-   file and answer may not overlap another part, the inputs included. The mesh isn't looked at: whether faces name points that there are is for hjoltravan_thin. */
+    0  done */
 void hjoltravan_write_scan(uint32_t unit, const float *points, size_t points_len, const uint32_t *faces, size_t faces_len,
                            uint8_t *file, size_t file_len, uint32_t answer[3]);
 
