@@ -1,4 +1,5 @@
-/* Thins a square of four triangles by half and prints what is left. Build it with the archive of the crate hjoltravan. */
+/* Thins a square of four triangles by half, one corner of it held, and prints what is left. Build it with the archive of the
+   crate hjoltravan. */
 #include "../include/hjoltravan.h"
 #include <stdio.h>
 #include <stdlib.h>
@@ -6,7 +7,8 @@
 int main(void) {
     const float points[] = {0, 0, 0, 2, 0, 0, 2, 2, 0, 0, 2, 0, 1, 1, 0};
     const uint32_t faces[] = {0, 1, 4, 1, 2, 4, 2, 3, 4, 3, 0, 4};
-    enum { V = 5, F = 4 };
+    const uint32_t margin[] = {0}; /* this point must not move */
+    enum { V = 5, F = 4, HELD = 1 };
 
     /* All memory is lent: room for the result, and for the work. */
     float out_points[HJOLTRAVAN_OUT_POINTS(V, F)];
@@ -17,7 +19,7 @@ int main(void) {
     if (!work_u32 || !work_f32 || !work_f64) return 1;
 
     uint32_t answer[5];
-    hjoltravan_thin(points, 3 * V, faces, 3 * F, 0.5f, false, false, 0.0f,
+    hjoltravan_thin(points, 3 * V, faces, 3 * F, margin, HELD, 0.5f, false, false, 0.0f,
                     out_points, HJOLTRAVAN_OUT_POINTS(V, F), out_faces, HJOLTRAVAN_OUT_FACES(V, F),
                     work_u32, HJOLTRAVAN_WORK_U32(V, F), work_f32, HJOLTRAVAN_WORK_F32(V, F),
                     work_f64, HJOLTRAVAN_WORK_F64(V, F), answer);

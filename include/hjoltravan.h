@@ -28,6 +28,8 @@ extern "C" {
 
    points, points_len   x, y, z of each point, 3V floats
    faces, faces_len     the three point numbers of each triangle, from 0, 3F numbers
+   margin, margin_len   the numbers of the points that must not move, from 0, each above the one before; where there are
+                        none the length is 0 and the pointer may be NULL
    ratio                how much to take away: 0 nothing (the mesh is copied), 1 as much as can be
    preserve             whether points on an open border stay as they are
    limited, limit       whether only pairs of points at most this far apart may be joined; limit isn't looked at without it
@@ -37,10 +39,10 @@ extern "C" {
    answer               number, place, points out, faces out, folds made
 
    Lengths count elements, not bytes. None of the six lent parts that are written (the two outputs, the three
-   work memories and answer) may overlap another part, the inputs included. The two inputs may be the same memory.
+   work memories and answer) may overlap another part, the inputs included. The inputs may share memory.
 
    The numbers, in the order they are checked:
-    1  a list's length is no multiple of 3
+    1  the length of points or faces is no multiple of 3
     2  more than 65,536 points or 131,072 faces
     3  an output or work memory is too short
     4  no points or no faces
@@ -49,21 +51,26 @@ extern "C" {
     7  a coordinate isn't finite or its size is above 1,048,576; place: the first such coordinate's number
     8  a face names a point that there isn't; place: that face
     9  a face names one point twice; place: that face (the lowest bad face counts, and within it 8 comes first)
-   10  nothing could be joined, and border points are held; place: how many there are
-   11  nothing could be joined
+   12  the margin names a point that there isn't, or a point not above the one before; place: the first such entry
+   10  nothing could be joined, and there are fixed points: margin points, in a face or not, and with preserve border
+       points; place: how many there are, each counted once
+   11  nothing could be joined, and no point is fixed
     0  done: the thinned mesh is in the first 3 * points out floats and 3 * faces out numbers of the outputs
 
-   A refusal (any number but 0) changes neither output. Work memory is untouched on 1 to 9, and its stated part is
+   At ratio 0 neither faces nor margin are looked at (8, 9 and 12). A fixed point isn't moved or joined to another, and no
+   other to it: where the thinned mesh still uses it, it has the bits it came with.
+
+   A refusal (any number but 0) changes neither output. Work memory is untouched on 1 to 9 and 12, and its stated part is
    all zero after 0, 10 and 11. */
 void hjoltravan_thin(const float *points, size_t points_len, const uint32_t *faces, size_t faces_len,
-                     float ratio, bool preserve, bool limited, float limit,
+                     const uint32_t *margin, size_t margin_len, float ratio, bool preserve, bool limited, float limit,
                      float *out_points, size_t out_points_len, uint32_t *out_faces, size_t out_faces_len,
                      uint32_t *work_u32, size_t work_u32_len, float *work_f32, size_t work_f32_len,
                      double *work_f64, size_t work_f64_len, uint32_t answer[5]);
 
 /* The same by the plain walk, which works every cost out anew at each step: the meaning of the one above, and slow. */
 void hjoltravan_thin_plain(const float *points, size_t points_len, const uint32_t *faces, size_t faces_len,
-                           float ratio, bool preserve, bool limited, float limit,
+                           const uint32_t *margin, size_t margin_len, float ratio, bool preserve, bool limited, float limit,
                            float *out_points, size_t out_points_len, uint32_t *out_faces, size_t out_faces_len,
                            uint32_t *work_u32, size_t work_u32_len, float *work_f32, size_t work_f32_len,
                            double *work_f64, size_t work_f64_len, uint32_t answer[5]);
@@ -76,7 +83,7 @@ void hjoltravan_thin_plain(const float *points, size_t points_len, const uint32_
    that is joined to it. As many numbers are written as there is room for, at most twice the folds made; the rest is never
    written, and on a refusal nothing is. Like the other lent parts folds may not overlap any other part. */
 void hjoltravan_thin_folds(const float *points, size_t points_len, const uint32_t *faces, size_t faces_len,
-                           float ratio, bool preserve, bool limited, float limit,
+                           const uint32_t *margin, size_t margin_len, float ratio, bool preserve, bool limited, float limit,
                            float *out_points, size_t out_points_len, uint32_t *out_faces, size_t out_faces_len,
                            uint32_t *work_u32, size_t work_u32_len, float *work_f32, size_t work_f32_len,
                            double *work_f64, size_t work_f64_len, uint32_t *folds, size_t folds_len, uint32_t answer[5]);

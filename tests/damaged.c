@@ -1,4 +1,4 @@
-/* Damaged files. The proved reader beside a second one, written below from the text of document 01 and in another way: it eats a
+/* Damaged files. The proved reader beside a second one, written below from the text of documents 01 and 02 and in another way: it eats a
    stream byte by byte. They are compared on number, place and head. The bytes lie against a page that can't be read. */
 #define _GNU_SOURCE
 #include <stdbool.h>
@@ -9,11 +9,12 @@
 #include <sys/mman.h>
 #include <unistd.h>
 
-/* 0, or 21 to 27. The cells: unit, preserve, limited, limit, ratio, points, faces, place; the floats as the file has them. */
-uint32_t tell_scan(const uint8_t *bytes, size_t length, uint32_t cells[8]);
+/* 0, or 21 to 27. The cells: unit, preserve, limited, limit, ratio, points, faces, margin, place; the floats as the file has
+   them. */
+uint32_t tell_scan(const uint8_t *bytes, size_t length, uint32_t cells[9]);
 
-enum { UNIT, PRESERVE, LIMITED, LIMIT, RATIO, POINTS, FACES, PLACE, CELLS, NUMBER = CELLS };
-enum { MOST = 4638, ROOM = 8192 };
+enum { UNIT, PRESERVE, LIMITED, LIMIT, RATIO, POINTS, FACES, MARGIN, PLACE, CELLS, NUMBER = CELLS };
+enum { MOST = 5156, ROOM = 8192 };
 
 /* ---- The second reader ---- */
 
@@ -58,7 +59,8 @@ static uint32_t eat_options(struct stream *s, uint32_t answer[])
 }
 
 /* One record: "21 head cut short or absent; 22 wrong kind; 23 kind 1 not 12 long, or another no multiple of 12; 27 too many points
-   or faces; 21 payload cut short; for kind 1 then 24 unit, 26 other flag bits" */
+   or faces; 21 payload cut short; for kind 1 then 24 unit, 26 other flag bits"; "23 if kind 4 is no multiple of 4; 27 if it names more
+   than 128; 21 if its payload is cut short" */
 static uint32_t eat_record(struct stream *s, unsigned wanted, uint32_t answer[])
 {
     uint64_t length, kind;
@@ -66,18 +68,34 @@ static uint32_t eat_record(struct stream *s, unsigned wanted, uint32_t answer[])
         return 21;
     if (kind != wanted)
         return 22;
-    uint64_t items = length / 12;
-    if (wanted == 1 ? length != 12 : items * 12 != length)
+    static const unsigned each[] = {0, 12, 12, 12, 4}, most[] = {0, 1, 128, 256, 128}, cell[] = {0, 0, POINTS, FACES, MARGIN};
+    uint64_t items = length / each[wanted];
+    if (wanted == 1 ? length != 12 : items * each[wanted] != length)
         return 23;
-    if ((wanted == 2 && items > 128) || (wanted == 3 && items > 256))
+    if (items > most[wanted])
         return 27;
     if ((uint64_t)(s->end - s->next) < length)
         return 21;
     if (wanted == 1)
         return eat_options(s, answer);
-    answer[wanted == 2 ? POINTS : FACES] = (uint32_t)items;
+    answer[cell[wanted]] = (uint32_t)items;
     s->next += length;
     return 0;
+}
+
+/* "A tail without a whole kind 4 head, and anything after kind 4, stays 25." */
+static uint32_t eat_tail(struct stream *s, const uint8_t **start, uint32_t answer[])
+{
+    struct stream ahead = *s;
+    uint64_t length, kind;
+    *start = s->next;
+    if (eat(&ahead, 4, &length) && eat(&ahead, 2, &kind) && kind == 4) {
+        uint32_t number = eat_record(s, 4, answer);
+        if (number)
+            return number;
+        *start = s->next;
+    }
+    return s->next == s->end ? 0 : 25;
 }
 
 /* "In that order, once each. After the third: 25 spare bytes. Place is the record's offset; for 25 the first spare byte." */
@@ -91,10 +109,8 @@ static void read_again(const uint8_t *bytes, size_t length, uint32_t answer[CELL
         start = s.next;
         number = eat_record(&s, wanted, answer);
     }
-    if (!number && s.next != s.end) {
-        start = s.next;
-        number = 25;
-    }
+    if (!number)
+        number = eat_tail(&s, &start, answer);
     if (number) {
         memset(answer, 0, CELLS * sizeof *answer);
         answer[PLACE] = (uint32_t)(start - bytes);
@@ -149,21 +165,29 @@ static size_t put_head(uint8_t *file, size_t at, uint32_t length, uint32_t kind)
     return at + 6;
 }
 
+/* A record of so many bytes, any of them. */
+static size_t put_record(uint8_t *file, size_t at, uint32_t length, uint32_t kind)
+{
+    at = put_head(file, at, length, kind);
+    for (size_t end = at + length; at < end; at++)
+        file[at] = (uint8_t)any(256);
+    return at;
+}
+
 /* A good file of v points and f faces, with any bytes in them. */
 static size_t good_file(uint8_t *file, uint32_t v, uint32_t f)
 {
-    size_t at = put_head(file, 0, 12, 1);
-    put(file + at, 2, 1 + any(2));
-    put(file + at + 2, 2, any(4));
-    for (size_t i = at + 4; i < at + 12; i++)
-        file[i] = (uint8_t)any(256);
-    at = put_head(file, at + 12, 12 * v, 2);
-    for (size_t end = at + 12 * v; at < end; at++)
-        file[at] = (uint8_t)any(256);
-    at = put_head(file, at, 12 * f, 3);
-    for (size_t end = at + 12 * f; at < end; at++)
-        file[at] = (uint8_t)any(256);
-    return at;
+    size_t at = put_record(file, 0, 12, 1);
+    put(file + 6, 2, 1 + any(2));
+    put(file + 8, 2, any(4));
+    at = put_record(file, at, 12 * v, 2);
+    return put_record(file, at, 12 * f, 3);
+}
+
+/* The same with a margin of m points. */
+static size_t margin_file(uint8_t *file, uint32_t v, uint32_t f, uint32_t m)
+{
+    return put_record(file, good_file(file, v, f), 4 * m, 4);
 }
 
 /* The example square of document 01. */
@@ -204,10 +228,10 @@ static void every_byte(uint8_t *file, size_t length)
 }
 
 /* Payload lengths whose sum with an offset is near 2^32 or past it, and those about the limits, in each record. */
-static void every_length(uint8_t *file, size_t length, size_t third)
+static void every_length(uint8_t *file, size_t length, size_t third, size_t fourth)
 {
-    const size_t heads[] = {0, 18, third};
-    for (int k = 0; k < 3; k++) {
+    const size_t heads[] = {0, 18, third, fourth};
+    for (int k = 0; k < 4; k++) {
         uint8_t was[4];
         memcpy(was, file + heads[k], 4);
         for (uint32_t n = 0; n < 6000; n++) {
@@ -230,31 +254,62 @@ static void any_bytes(uint8_t *file)
     compare(file, length);
 }
 
-/* A good file with up to three changes: a byte, a record's length, its end cut off, or bytes added. */
+/* So many bytes more. */
+static size_t longer(uint8_t *file, size_t length, uint32_t more)
+{
+    for (; more-- > 0 && length < ROOM;)
+        file[length++] = (uint8_t)any(256);
+    return length;
+}
+
+/* Good records of kinds 1 to 3, and a tail: a record, mostly of kind 4, whole, cut, or with bytes or another kind 4 after it. */
+static void any_tail(uint8_t *file)
+{
+    size_t end = good_file(file, any(5), any(5));
+    uint32_t size = any(4) ? 4 * any(132) : any(530);
+    size_t length = put_record(file, end, size, any(4) ? 4 : any(8));
+    switch (any(4)) {
+    case 0:
+        length = end + any((uint32_t)(length - end));
+        break;
+    case 1:
+        length = longer(file, length, 1 + any(20));
+        break;
+    case 2:
+        length = put_record(file, length, 4 * any(3), 4);
+        break;
+    default:
+        break;
+    }
+    compare(file, length);
+}
+
+/* A good file with a margin or without, and up to three changes: a byte, a record's length, its end cut off, or bytes added. */
 static void any_damage(uint8_t *file)
 {
-    uint32_t v = any(8) ? any(8) : any(129), f = any(8) ? any(8) : any(257);
-    size_t length = good_file(file, v, f), third = 24 + 12 * v;
+    uint32_t v = any(8) ? any(8) : any(129), f = any(8) ? any(8) : any(257), m = any(8) ? any(8) : any(129);
+    size_t third = 24 + 12 * v, fourth = third + 6 + 12 * f;
+    uint32_t records = 3 + any(2);
+    size_t length = records == 4 ? margin_file(file, v, f, m) : good_file(file, v, f);
     for (uint32_t changes = any(4); changes-- > 0;) {
-        const size_t heads[] = {0, 18, third};
-        size_t head = heads[any(3)];
+        const size_t heads[] = {0, 18, third, fourth};
+        size_t head = heads[any(records)];
         switch (any(5)) {
         case 0:
             if (length)
                 file[any((uint32_t)length)] ^= (uint8_t)(1 + any(255));
             break;
         case 1:
-            put(file + head, 4, 12 * any(260));
+            put(file + head, 4, (any(2) ? 12 : 4) * any(260));
             break;
         case 2:
-            file[head + any(18)] = (uint8_t)any(4);
+            file[head + any(18)] = (uint8_t)any(5);
             break;
         case 3:
             length = any((uint32_t)length + 1);
             break;
         default:
-            for (uint32_t more = 1 + any(20); more-- > 0 && length < ROOM;)
-                file[length++] = (uint8_t)any(256);
+            length = longer(file, length, 1 + any(20));
         }
     }
     compare(file, length);
@@ -274,20 +329,32 @@ int main(void)
     size_t length = square_file(file);
     every_prefix(file, length);
     every_byte(file, length);
-    every_length(file, length, 84);
+    /* points 0 and 2 as its margin */
+    size_t fourth = length;
+    length = put_head(file, length, 8, 4) + 8;
+    put(file + length - 8, 4, 0);
+    put(file + length - 4, 4, 2);
+    every_prefix(file, length);
+    every_byte(file, length);
+    every_length(file, length, 84, fourth);
 
-    length = good_file(file, 128, 256);
+    length = margin_file(file, 128, 256, 128);
     if (length != MOST)
         return 2;
-    every_length(file, length, 24 + 12 * 128);
+    every_length(file, length, 24 + 12 * 128, 30 + 12 * 128 + 12 * 256);
     memset(file + length, 0, ROOM - length);
     every_prefix(file, length + 1000);
     for (uint32_t v = 126; v <= 130; v++)
-        for (uint32_t f = 254; f <= 258; f++)
+        for (uint32_t f = 254; f <= 258; f++) {
             compare(file, good_file(file, v, f));
+            for (uint32_t m = 126; m <= 130; m++)
+                compare(file, margin_file(file, v, f, m));
+        }
 
     for (int i = 0; i < 100000; i++)
         any_bytes(file);
+    for (int i = 0; i < 100000; i++)
+        any_tail(file);
     for (int i = 0; i < 100000; i++)
         any_damage(file);
 

@@ -1,6 +1,6 @@
 /* Runs the library on stored cases and compares its answers with the stored
    ones: the five numbers, the bits of the outputs, the list of folds, and every
-   other cell that was lent.
+   other cell that was lent. By the folds alone it sees that margin points stay.
 
        replay [MOST_FACES [times]] < cases
 
@@ -16,7 +16,7 @@
 #include <string.h>
 #include <time.h>
 
-enum { GUARD = 16, MOST_FAMILIES = 64, MAGIC = 0x31636a68 };
+enum { GUARD = 16, MOST_FAMILIES = 64, MAGIC = 0x32636a68 };
 
 static void stop(const char *why)
 {
@@ -108,15 +108,17 @@ static void fill(struct lent *lent, const uint32_t *list, size_t stored)
 
 /* ---- Cases ---- */
 
-enum { FAMILY, RATIO, OPTIONS, LIMIT, POINTS_LEN, FACES_LEN,
+enum { FAMILY, RATIO, OPTIONS, LIMIT, POINTS_LEN, FACES_LEN, MARGIN_LEN,
        OUT_POINTS_LEN, OUT_FACES_LEN, WORK_U32_LEN, WORK_F32_LEN, WORK_F64_LEN,
        NUMBER, PLACE, POINTS_OUT, FACES_OUT, FOLDS,
-       POINTS, FACES, OUT_POINTS, OUT_FACES, FOLD_LIST, HEAD };
+       POINTS, FACES, MARGIN, OUT_POINTS, OUT_FACES, FOLD_LIST, HEAD };
 
-/* The words of a case, and where its five lists begin. */
+enum { LISTS = HEAD - POINTS };
+
+/* The words of a case, and where its lists begin. */
 struct one {
     uint32_t *word;
-    const uint32_t *list[5];
+    const uint32_t *list[LISTS];
     size_t words;
     unsigned long number;
 };
@@ -143,13 +145,26 @@ static bool read_case(struct one *c, size_t *space)
     c->words = words;
     c->number++;
     const uint32_t *next = c->word + HEAD;
-    for (int i = 0; i < 5; i++) {
+    for (int i = 0; i < LISTS; i++) {
         c->list[i] = next;
         next += c->word[POINTS + i];
     }
     if (next != c->word + words)
         stop("the lists of a case don't fit");
     return true;
+}
+
+/* A list of a case, by the word that says how much of it is stored. */
+static const uint32_t *list_of(const struct one *c, int which)
+{
+    return c->list[which - POINTS];
+}
+
+/* Whether the call is answered before the walk. */
+static bool refused(const struct one *c)
+{
+    uint32_t number = c->word[NUMBER];
+    return (number >= 1 && number <= 9) || number == 12;
 }
 
 static float float_of(uint32_t bits)
@@ -163,17 +178,17 @@ static float float_of(uint32_t bits)
 
 typedef __typeof__(hjoltravan_thin) thin_function;
 
-static struct lent points, faces, out_points, out_faces, work_u32, work_f32, work_f64, folds, answer;
+static struct lent points, faces, margin, out_points, out_faces, work_u32, work_f32, work_f64, folds, answer;
 
 #ifdef HJOLTRAVAN_FOLDS
 /* The entry that tells its folds, called like the others. */
 static void thin_folds(const float *p, size_t p_len, const uint32_t *f, size_t f_len,
-                       float ratio, bool preserve, bool limited, float limit,
+                       const uint32_t *m, size_t m_len, float ratio, bool preserve, bool limited, float limit,
                        float *out_p, size_t out_p_len, uint32_t *out_f, size_t out_f_len,
                        uint32_t *w_u32, size_t w_u32_len, float *w_f32, size_t w_f32_len,
                        double *w_f64, size_t w_f64_len, uint32_t *five)
 {
-    hjoltravan_thin_folds(p, p_len, f, f_len, ratio, preserve, limited, limit, out_p, out_p_len, out_f, out_f_len,
+    hjoltravan_thin_folds(p, p_len, f, f_len, m, m_len, ratio, preserve, limited, limit, out_p, out_p_len, out_f, out_f_len,
                           w_u32, w_u32_len, w_f32, w_f32_len, w_f64, w_f64_len, start(&folds), folds.length, five);
 }
 #endif
@@ -223,10 +238,13 @@ static void call(thin_function *thin, const struct one *c)
     lend(&work_f64, 2 * (size_t)w[WORK_F64_LEN], salt + 6);
     lend(&answer, 5, salt + 7);
     lend(&folds, folds_room(c), salt + 8);
-    fill(&points, c->list[0], w[POINTS]);
-    fill(&faces, c->list[1], w[FACES]);
+    lend(&margin, w[MARGIN_LEN], salt + 9);
+    fill(&points, list_of(c, POINTS), w[POINTS]);
+    fill(&faces, list_of(c, FACES), w[FACES]);
+    fill(&margin, list_of(c, MARGIN), w[MARGIN]);
     double began = now();
     thin((float *)start(&points), points.length, start(&faces), faces.length,
+         start(&margin), margin.length,
          float_of(w[RATIO]), w[OPTIONS] & 1, w[OPTIONS] >> 1 & 1, float_of(w[LIMIT]),
          (float *)start(&out_points), out_points.length,
          start(&out_faces), out_faces.length,
@@ -251,27 +269,84 @@ static bool kept(const struct lent *lent, const uint32_t *list, size_t stored)
     return holds(lent, list, stored, lent->length) && untouched_from(lent, lent->length);
 }
 
+/* For each point the one that it was joined to, or itself; and whether a fold names it. */
+static uint32_t *joined, *folded;
+
+/* Follows the stored folds, over the points alone. */
+static void follow_folds(const struct one *c)
+{
+    const uint32_t *w = c->word, *list = list_of(c, FOLD_LIST);
+    size_t v = w[POINTS_LEN] / 3;
+    joined = room(joined, v);
+    folded = room(folded, v);
+    for (size_t i = 0; i < v; i++) {
+        joined[i] = (uint32_t)i;
+        folded[i] = 0;
+    }
+    for (size_t i = 0; i < 2 * (size_t)w[FOLDS]; i += 2) {
+        uint32_t keep = list[i % w[FOLD_LIST]], remove = list[(i + 1) % w[FOLD_LIST]];
+        joined[remove] = keep;
+        folded[keep] = folded[remove] = 1;
+    }
+}
+
+/* The point that stands for a point after the folds. */
+static uint32_t stands_for(uint32_t point)
+{
+    while (joined[point] != point) {
+        /* a shorter way for the next time */
+        joined[point] = joined[joined[point]];
+        point = joined[point];
+    }
+    return point;
+}
+
+/* Whether no fold names a margin point, and every point that no fold names has
+   its own bits wherever a face of the output uses it. */
+static bool margin_stays(const struct one *c)
+{
+    const uint32_t *out = start(&out_faces), *end = out + 3 * (size_t)c->word[FACES_OUT];
+    follow_folds(c);
+    for (size_t i = 0; i < margin.length; i++)
+        if (folded[start(&margin)[i]])
+            return false;
+    for (size_t i = 0; i < faces.length; i += 3) {
+        uint32_t corner[3];
+        for (int j = 0; j < 3; j++)
+            corner[j] = stands_for(start(&faces)[i + j]);
+        if (corner[0] == corner[1] || corner[1] == corner[2] || corner[2] == corner[0])
+            continue;
+        if (out == end)
+            return false;
+        for (int j = 0; j < 3; j++, out++)
+            if (!folded[corner[j]] &&
+                memcmp(start(&points) + 3 * corner[j], start(&out_points) + 3 * *out, 3 * sizeof(uint32_t)))
+                return false;
+    }
+    return out == end;
+}
+
 /* The first thing that differs, or null. */
 static const char *difference(const struct one *c, bool tells_folds)
 {
     const uint32_t *w = c->word;
-    bool done = w[NUMBER] == 0, refused = w[NUMBER] >= 1 && w[NUMBER] <= 9;
+    bool done = w[NUMBER] == 0;
     size_t point_cells = done ? 3 * (size_t)w[POINTS_OUT] : 0;
     size_t face_cells = done ? 3 * (size_t)w[FACES_OUT] : 0;
     size_t told = tells_folds ? fold_cells(c) : 0;
     /* The stated part of the work memory is cleared unless refused. */
-    size_t v = refused ? 0 : w[POINTS_LEN] / 3, f = refused ? 0 : w[FACES_LEN] / 3;
+    size_t v = refused(c) ? 0 : w[POINTS_LEN] / 3, f = refused(c) ? 0 : w[FACES_LEN] / 3;
 
     for (int i = 0; i < 5; i++)
         if (start(&answer)[i] != w[NUMBER + i])
             return answer_part[i];
-    if (!holds(&folds, c->list[4], w[FOLD_LIST], told))
+    if (!holds(&folds, list_of(c, FOLD_LIST), w[FOLD_LIST], told))
         return "list of folds";
     if (!untouched_from(&folds, told))
         return "list of folds past the part used";
-    if (!holds(&out_points, c->list[2], w[OUT_POINTS], point_cells))
+    if (!holds(&out_points, list_of(c, OUT_POINTS), w[OUT_POINTS], point_cells))
         return "output points";
-    if (!holds(&out_faces, c->list[3], w[OUT_FACES], face_cells))
+    if (!holds(&out_faces, list_of(c, OUT_FACES), w[OUT_FACES], face_cells))
         return "output faces";
     if (!untouched_from(&out_points, point_cells))
         return "output points past the part used";
@@ -283,12 +358,17 @@ static const char *difference(const struct one *c, bool tells_folds)
         return "f32 work memory";
     if (!cleared(&work_f64, 2 * (16 * v + 6 * f)))
         return "f64 work memory";
-    if (!kept(&points, c->list[0], w[POINTS]))
+    if (!kept(&points, list_of(c, POINTS), w[POINTS]))
         return "input points";
-    if (!kept(&faces, c->list[1], w[FACES]))
+    if (!kept(&faces, list_of(c, FACES), w[FACES]))
         return "input faces";
+    if (!kept(&margin, list_of(c, MARGIN), w[MARGIN]))
+        return "input margin";
     if (!untouched_from(&answer, 5))
         return "cells beside the answer";
+    /* At ratio zero neither faces nor margin are looked at. */
+    if (done && float_of(w[RATIO]) != 0 && !margin_stays(c))
+        return "points that must not move";
     return NULL;
 }
 
@@ -319,12 +399,13 @@ static void print_case(const struct one *c, const char *what, const char *entry,
            w[NUMBER], w[PLACE], w[POINTS_OUT], w[FACES_OUT], w[FOLDS]);
     printf("got      answer %u place %u points %u faces %u folds %u\n",
            got[0], got[1], got[2], got[3], got[4]);
-    print_list("points", c->list[0], w[POINTS], w[POINTS_LEN], 3, "%08x ");
-    print_list("faces", c->list[1], w[FACES], w[FACES_LEN], 3, "%u ");
+    print_list("points", list_of(c, POINTS), w[POINTS], w[POINTS_LEN], 3, "%08x ");
+    print_list("faces", list_of(c, FACES), w[FACES], w[FACES_LEN], 3, "%u ");
+    print_list("margin", list_of(c, MARGIN), w[MARGIN], w[MARGIN_LEN], 12, "%u ");
     size_t points_out = w[POINTS_OUT], faces_out = w[FACES_OUT], folds = w[FOLDS];
-    print_list("expected points", c->list[2], w[OUT_POINTS], 3 * points_out, 3, "%08x ");
-    print_list("expected faces", c->list[3], w[OUT_FACES], 3 * faces_out, 3, "%u ");
-    print_list("expected folds", c->list[4], w[FOLD_LIST], 2 * folds, 2, "%u ");
+    print_list("expected points", list_of(c, OUT_POINTS), w[OUT_POINTS], 3 * points_out, 3, "%08x ");
+    print_list("expected faces", list_of(c, OUT_FACES), w[OUT_FACES], 3 * faces_out, 3, "%u ");
+    print_list("expected folds", list_of(c, FOLD_LIST), w[FOLD_LIST], 2 * folds, 2, "%u ");
 }
 
 /* The smallest case that differs so far. */
@@ -346,7 +427,7 @@ static void keep_if_smallest(const struct one *c, const char *what, const char *
     struct one copy = *c;
     copy.word = room(smallest.one.word, c->words);
     memcpy(copy.word, c->word, c->words * sizeof(uint32_t));
-    for (int i = 0; i < 5; i++)
+    for (int i = 0; i < LISTS; i++)
         copy.list[i] = copy.word + (c->list[i] - c->word);
     smallest.one = copy;
     smallest.what = what;
@@ -407,7 +488,7 @@ int main(int count, char **argument)
             stop("the file is cut short");
 
     unsigned long cases[MOST_FAMILIES] = { 0 }, wrong[MOST_FAMILIES] = { 0 };
-    unsigned long all = 0, all_wrong = 0, by_plain = 0, told = 0;
+    unsigned long all = 0, all_wrong = 0, by_plain = 0, told = 0, held = 0;
     for (size_t space = 0; read_case(&c, &space);) {
         uint32_t family = c.word[FAMILY];
         if (family >= head[1])
@@ -417,8 +498,9 @@ int main(int count, char **argument)
         wrong_here |= differs(&telling, &c);
         told += fold_cells(&c) / 2;
 #endif
-        bool refused = c.word[NUMBER] >= 1 && c.word[NUMBER] <= 9;
-        if (refused || c.word[FACES_LEN] / 3 <= plain_most) {
+        if (c.word[FOLDS])
+            held += c.word[MARGIN_LEN];
+        if (refused(&c) || c.word[FACES_LEN] / 3 <= plain_most) {
             wrong_here |= differs(&plain, &c);
             by_plain++;
         }
@@ -431,7 +513,8 @@ int main(int count, char **argument)
         if (cases[i])
             printf("%-16s %8lu cases %8lu differ\n", name[i], cases[i], wrong[i]);
     printf("%-16s %8lu cases %8lu differ\n", "all", all, all_wrong);
-    printf("%lu of the cases were run by the plain walk too; %lu folds were told one by one\n", by_plain, told);
+    printf("%lu of the cases were run by the plain walk too; %lu folds were told one by one; %lu margin points stayed beside folds\n",
+           by_plain, told, held);
     if (count > 2) {
         print_time(&fast);
 #ifdef HJOLTRAVAN_FOLDS

@@ -31,7 +31,9 @@ pub fn walked(case: &Case) -> (Answer, Vec<Fold>) {
 pub fn simplifier(case: &Case) -> QuadricErrorSimplifier {
     let limit = case.limited.then_some(f32::from_bits(case.limit));
     // The third parameter is stored by the Rust and never read.
-    QuadricErrorSimplifier::with_params(limit, case.preserve, 0.0)
+    let mut simplifier = QuadricErrorSimplifier::with_params(limit, case.preserve, 0.0);
+    simplifier.margin = case.margin.iter().map(|&point| point as usize).collect();
+    simplifier
 }
 
 pub fn mesh(case: &Case) -> TriangleMesh {
@@ -45,10 +47,10 @@ pub fn mesh(case: &Case) -> TriangleMesh {
 
 /// Answers 10 and 11, read from the message: "... (4 of 5 vertices are on a hole ...".
 fn no_fold(message: &str) -> Answer {
-    let border_points = message.split_once('(').and_then(|(_, rest)| rest.split_once(" of "));
-    match border_points {
+    let fixed_points = message.split_once('(').and_then(|(_, rest)| rest.split_once(" of "));
+    match fixed_points {
         Some((count, _)) => {
-            let place = count.parse().expect("a count of border points");
+            let place = count.parse().expect("a count of fixed points");
             Answer { number: 10, place, ..Answer::default() }
         }
         None => Answer { number: 11, ..Answer::default() },

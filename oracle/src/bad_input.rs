@@ -2,6 +2,7 @@
 
 use crate::case::{Case, Lent};
 use crate::dressing::{dressed, lend_as_stated, plain};
+use crate::margins::spoil_margin;
 use crate::random::Random;
 use crate::rules::LARGEST_COORDINATE;
 use crate::shapes::{self, Mesh};
@@ -14,10 +15,14 @@ pub fn refused(random: &mut Random) -> Case {
     for _ in 0..random.choose(&[1, 1, 2, 3, 4, 5]) {
         spoil(random, &mut case);
     }
+    if random.once_in(4) {
+        spoil_margin(random, &mut case);
+    }
     case
 }
 
-fn spoil(random: &mut Random, case: &mut Case) {
+/// One fault, of any kind but the margin's.
+pub fn spoil(random: &mut Random, case: &mut Case) {
     let coordinate = random.below(case.points.len().max(1));
     let face = random.below((case.faces.len() / 3).max(1));
     // A long list that repeats itself stays short in the file only if left alone.
@@ -58,6 +63,9 @@ pub fn bad_faces(random: &mut Random) -> Case {
     for _ in 0..random.between(1, 3) {
         let face = if random.once_in(2) { one } else { random.below(faces) };
         spoil_face(random, &mut case, face);
+    }
+    if random.once_in(3) {
+        spoil_margin(random, &mut case);
     }
     case
 }
@@ -127,7 +135,7 @@ fn bad_coordinate(random: &mut Random) -> u32 {
 
 /// One triangle over and over, and its points over and over. No pair is short
 /// enough to be opened: the Rust is slow where many faces meet.
-fn repeated(points: usize, faces: usize) -> Case {
+pub fn repeated(points: usize, faces: usize) -> Case {
     let triangle = [[0.0, 0.0, 0.0], [1.0, 0.0, 0.0], [0.0, 1.0, 0.0]];
     let mut case = plain(Mesh {
         points: (0..points).map(|i| triangle[i % 3]).collect(),
@@ -159,7 +167,7 @@ pub fn at_size_limit(random: &mut Random) -> Case {
     case
 }
 
-/// Ratio zero copies whatever the faces say.
+/// Ratio zero copies whatever faces and margin say.
 pub fn ratio_zero(random: &mut Random, most: usize) -> Case {
     let mesh = shapes::torn(random, most.min(12));
     let mut case = dressed(random, mesh);
@@ -167,5 +175,8 @@ pub fn ratio_zero(random: &mut Random, most: usize) -> Case {
         spoil(random, &mut case);
     }
     case.ratio = random.choose(&[0.0f32, -0.0]).to_bits();
+    if random.once_in(2) {
+        spoil_margin(random, &mut case);
+    }
     case
 }

@@ -7,8 +7,8 @@
 
 use std::io::{self, Write};
 
-/// "hjc1" as bytes in the file.
-const MAGIC: u32 = u32::from_le_bytes(*b"hjc1");
+/// "hjc2" as bytes in the file.
+const MAGIC: u32 = u32::from_le_bytes(*b"hjc2");
 
 /// What a call is given. Floats are kept as bits, so that any NaN can be stored.
 #[derive(Clone, Debug)]
@@ -16,6 +16,8 @@ pub struct Case {
     pub family: u32,
     pub points: Vec<u32>,
     pub faces: Vec<u32>,
+    /// Numbers of points that must not move.
+    pub margin: Vec<u32>,
     pub ratio: u32,
     pub preserve: bool,
     pub limited: bool,
@@ -78,8 +80,9 @@ pub fn write_head(out: &mut impl Write, families: &[&str]) -> io::Result<()> {
 impl Case {
     pub fn write(&self, answer: &Answer, out: &mut impl Write) -> io::Result<()> {
         let folds = answer.folds.concat();
-        let lists = [&self.points, &self.faces, &answer.points, &answer.faces, &folds]
-            .map(|list| &list[..period(list)]);
+        let lists =
+            [&self.points, &self.faces, &self.margin, &answer.points, &answer.faces, &folds]
+                .map(|list| &list[..period(list)]);
         let lent = &self.lent;
         let mut words = vec![
             self.family,
@@ -88,6 +91,7 @@ impl Case {
             self.limit,
             self.points.len() as u32,
             self.faces.len() as u32,
+            self.margin.len() as u32,
             lent.out_points as u32,
             lent.out_faces as u32,
             lent.work_u32 as u32,

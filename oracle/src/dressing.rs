@@ -22,12 +22,13 @@ pub fn dressed(random: &mut Random, mut mesh: Mesh) -> Case {
     case
 }
 
-/// The mesh as it stands: ratio 1, no limit, preserve off, memory as stated.
+/// The mesh as it stands: no margin, ratio 1, no limit, preserve off, memory as stated.
 pub fn plain(mesh: Mesh) -> Case {
     Case {
         family: 0,
         points: mesh.points.concat().iter().map(|&x| (x as f32).to_bits()).collect(),
         faces: mesh.faces.concat(),
+        margin: Vec::new(),
         ratio: 1.0f32.to_bits(),
         preserve: false,
         limited: false,

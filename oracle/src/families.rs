@@ -6,6 +6,7 @@ use crate::dressing::dressed;
 use crate::edge_cases::{
     bound_step, limit_step, place_step, point_step, ratio_step, squash_step, turn_step,
 };
+use crate::margins;
 use crate::odd_places::{choice, far, hats, no_area};
 use crate::random::Random;
 use crate::shapes::{self, Mesh};
@@ -22,15 +23,12 @@ const fn family(name: &'static str, weight: usize, make: Maker) -> Family {
     Family { name, weight, make }
 }
 
-const FAMILIES: [Family; 24] = [
+const FAMILIES: [Family; 31] = [
     family("refused", 30, |r, _| vec![refused(r)]),
     family("bad faces", 6, |r, _| vec![bad_faces(r)]),
     family("sizes", 1, |r, _| vec![at_size_limit(r)]),
     family("ratio zero", 6, |r, most| vec![ratio_zero(r, most)]),
-    family("closed", 18, |r, most| {
-        let mesh = if r.once_in(2) { shapes::ball(r, most) } else { shapes::block(r, most) };
-        vec![dressed(r, mesh)]
-    }),
+    family("closed", 18, |r, most| of_shape(r, most, shapes::closed)),
     family("torus", 12, |r, most| of_shape(r, most, shapes::torus)),
     family("grid", 18, |r, most| of_shape(r, most, shapes::grid)),
     family("patch", 18, |r, most| of_shape(r, most, shapes::patch)),
@@ -50,6 +48,13 @@ const FAMILIES: [Family; 24] = [
     family("turn step", 18, |r, _| turn_step(r)),
     family("place step", 18, |r, _| place_step(r)),
     family("bound step", 9, |r, _| bound_step(r)),
+    family("margin points", 15, |r, most| vec![margins::points(r, most)]),
+    family("margin curve", 15, |r, most| vec![margins::curve(r, most)]),
+    family("margin all", 6, |r, most| vec![margins::every(r, most)]),
+    family("margin border", 15, |r, most| vec![margins::border(r, most)]),
+    family("margin unused", 9, |r, most| vec![margins::unused(r, most)]),
+    family("margin sizes", 1, |r, _| vec![margins::at_size_limit(r)]),
+    family("bad margin", 12, |r, _| vec![margins::bad(r)]),
 ];
 
 pub fn names() -> Vec<&'static str> {
@@ -84,7 +89,12 @@ fn weighted(random: &mut Random) -> usize {
         .expect("a weight")
 }
 
+/// A shape, now and then with a margin.
 fn of_shape(random: &mut Random, most: usize, shape: fn(&mut Random, usize) -> Mesh) -> Vec<Case> {
     let mesh = shape(random, most);
-    vec![dressed(random, mesh)]
+    let mut case = dressed(random, mesh);
+    if random.once_in(6) {
+        margins::hold_any(random, &mut case);
+    }
+    vec![case]
 }

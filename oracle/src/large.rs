@@ -14,17 +14,20 @@ use std::time::{Duration, Instant};
 const TIMES: usize = 3;
 
 /// With side 256 the torus has 65,536 points and 131,072 faces, and the grid 65,536 points
-/// and 130,050 faces.
+/// and 130,050 faces; held is the grid with every sixteenth point in the margin.
 pub fn write(shape: &str, side: usize, ratio: f32, out: &mut impl Write) -> io::Result<()> {
     let mut random = Random::new(1, 0);
     let mesh = match shape {
         "torus" | "shuffled" => shapes::torus_of(side, side, 0.4, || false),
-        "grid" => shapes::grid_of(side - 1, side - 1, || false),
-        _ => panic!("shapes: torus, shuffled, grid"),
+        "grid" | "held" => shapes::grid_of(side - 1, side - 1, || false),
+        _ => panic!("shapes: torus, shuffled, grid, held"),
     };
     let mut case = plain(waved(&mut random, mesh));
     if shape == "shuffled" {
         case = shuffled(&case);
+    }
+    if shape == "held" {
+        case.margin = (0..case.points.len() as u32 / 3).step_by(16).collect();
     }
     case.ratio = ratio.to_bits();
     eprintln!("{shape}, {} faces, ratio {ratio}", case.faces.len() / 3);

@@ -22,6 +22,7 @@ mod edge_cases;
 mod families;
 mod fold_report;
 mod large;
+mod margins;
 mod odd_places;
 mod patterns;
 mod random;

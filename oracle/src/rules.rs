@@ -1,5 +1,6 @@
-//! Answers 1 to 9 and the answer at ratio zero, written from the table of
-//! document 01 and not from the Rust, which is asked only about admitted meshes.
+//! Answers 1 to 9, 12 and the answer at ratio zero, written from the table of
+//! document 01 and from wish 2 of document 02, and not from the Rust, which is
+//! asked only about admitted meshes.
 
 use crate::case::{Answer, Case, Lent};
 
@@ -16,7 +17,8 @@ pub fn answer_before_walk(case: &Case) -> Option<Answer> {
         let (points, faces) = (case.points.clone(), case.faces.clone());
         return Some(Answer { points, faces, ..Answer::default() });
     }
-    refusal_of_faces(case).map(|(number, place)| refused(number, place))
+    let refusal = refusal_of_faces(case).or_else(|| refusal_of_margin(case));
+    refusal.map(|(number, place)| refused(number, place))
 }
 
 fn refused(number: u32, place: usize) -> Answer {
@@ -64,4 +66,13 @@ fn refusal_of_faces(case: &Case) -> Option<(u32, usize)> {
         }
     }
     None
+}
+
+/// Number 12: the first entry that is not below V, or not above the one before it.
+fn refusal_of_margin(case: &Case) -> Option<(u32, usize)> {
+    let points = case.points.len() as u32 / 3;
+    let margin = &case.margin;
+    let bad =
+        |&place: &usize| margin[place] >= points || place > 0 && margin[place] <= margin[place - 1];
+    (0..margin.len()).find(bad).map(|place| (12, place))
 }

@@ -365,6 +365,15 @@ pub fn torn(random: &mut Random, most: usize) -> Mesh {
     mesh
 }
 
+/// A surface without border.
+pub fn closed(random: &mut Random, most: usize) -> Mesh {
+    if random.once_in(2) {
+        ball(random, most)
+    } else {
+        block(random, most)
+    }
+}
+
 /// Any shape that is a surface.
 pub fn surface(random: &mut Random, most: usize) -> Mesh {
     let shapes = [ball, block, torus, grid, patch, fan];

@@ -4,6 +4,7 @@ pub mod SearchLaws
 pub mod TestLaws
 pub mod OrderLaws
 pub mod FaceLaws
+pub mod MarginLaws
 pub mod ContentsLaws
 pub mod FaceVerdictLaws
 pub mod VerdictLaws

@@ -14,12 +14,14 @@ use Rattle.meaning.specs.declared.Verdict.{Verdict}
 use Rattle.meaning.specs.declared.Verdict.the-variants.{Refused, Copied, Admitted}
 use Rattle.meaning.specs.Input.{Input, pointsIn, facesIn}
 use Rattle.bits.specs.Cut.{zeroFloat, oneFloat}
-use Rattle.meaning.specs.Answers.{uneven, large, short, empty, badRatio, badLimit, badCoordinate, contentsVerdict, verdictOf}
+use Rattle.meaning.specs.Answers.{uneven, large, short, empty, badRatio, badLimit, badCoordinate, faceVerdict, marginVerdict, contentsVerdict, verdictOf}
 use Rattle.checks.specs.Facts.{Sized, Copiable, Admissible}
 use Rattle.lists.proofs.TestLaws.{both-true, neither-of}
 use Rattle.checks.proofs.TestLaws.{neither, by-three, even-threes, above-zero, not-zero, each-fails, none-passes}
-use Rattle.meaning.proofs.VerdictOrder.{admits, copies, decides, goes-on, past}
+use Rattle.meaning.proofs.VerdictOrder.{admits, copies, decides, goes-on, past, both-admit, each-admits, neither-copies}
 use Rattle.meaning.proofs.FaceVerdictLaws.{faces-proper-of, faces-admitted, faces-not-copied}
+use Rattle.meaning.proofs.MarginVerdictLaws.{margin-admitted, margin-good, margin-not-copied, each-good}
+use Rattle.checks.proofs.MarginLaws.{all-good}
 
 -- ---- numbers 1 to 6
 
@@ -37,7 +39,7 @@ pub record PassedSix (i : Input) (r : Verdict) : Type 0 where
   pub four : empty (pointsIn i) (facesIn i) ≡ false
   pub five : badRatio (i .options .ratio) ≡ false
   pub six : badLimit (i .options .limit) ≡ false
-  pub rest : contentsVerdict (i .points) (i .faces) (i .options .ratio) (i .bound) ≡ r
+  pub rest : contentsVerdict (i .points) (i .faces) (i .margin) (i .options .ratio) (i .bound) ≡ r
 
 -- a verdict that no number below 7 gives comes after those tests, and back
 pub passed-six : (i : Input) {r : Verdict} → late r ≡ true → verdictOf i ≡ r → PassedSix i r
@@ -91,7 +93,7 @@ sized-of i p seven =
     }
 
 -- and back, with what the lists give
-passed-of : (i : Input) {r : Verdict} → Sized i → contentsVerdict (i .points) (i .faces) (i .options .ratio) (i .bound) ≡ r → PassedSix i r
+passed-of : (i : Input) {r : Verdict} → Sized i → contentsVerdict (i .points) (i .faces) (i .margin) (i .options .ratio) (i .bound) ≡ r → PassedSix i r
 passed-of i s e =
     record {
       one = neither (even-threes _ (s .points-by-three)) (even-threes _ (s .faces-by-three));
@@ -123,7 +125,13 @@ admitted i e =
     let p = passed-six i refl e in
     let seven = past admits (some (badCoordinate (i .bound)) (i .points)) (Refused 7 _) _ refl refl (p .rest) in
     let above = past admits (eq (i .options .ratio) zeroFloat) Copied _ refl refl (seven .1) in
-    record { sized = sized-of i p (seven .0); ratio-above = above .0; faces-proper = faces-proper-of (pointsIn i) 0 (facesOf (facesIn i) (i .faces)) (above .1) }
+    let lists = each-admits (faceVerdict (pointsIn i) 0 (facesOf (facesIn i) (i .faces))) (marginVerdict (pointsIn i) (i .margin)) (above .1) in
+    record {
+      sized = sized-of i p (seven .0);
+      ratio-above = above .0;
+      faces-proper = faces-proper-of (pointsIn i) 0 (facesOf (facesIn i) (i .faces)) (lists .0);
+      margin-good = each-good (pointsIn i) (i .margin) (margin-good (pointsIn i) (i .margin) (lists .1));
+    }
 
 -- an admissible input is admitted
 pub is-admitted : (i : Input) → Admissible i → verdictOf i ≡ Admitted
@@ -133,12 +141,15 @@ is-admitted i a =
     (passed-of i (a .sized)
     (sym
     (goes-on _ _ _ _ _ refl (no-bad-coordinate i (a .sized))
-    (goes-on _ _ _ _ _ refl (a .ratio-above) (sym (faces-admitted (pointsIn i) 0 (facesOf (facesIn i) (i .faces)) (a .faces-proper)))))))
+    (goes-on _ _ _ _ _ refl (a .ratio-above)
+    (sym
+    (both-admit (faces-admitted (pointsIn i) 0 (facesOf (facesIn i) (i .faces)) (a .faces-proper))
+    (margin-admitted (pointsIn i) (i .margin) (all-good (pointsIn i) (i .margin) (a .margin-good)))))))))
 
--- copied, or by faces that never say so
-zero-of : (test : Bool) (faces : Verdict) → (faces ≡ Copied → ⊥) → cond test Copied faces ≡ Copied → test ≡ true
-zero-of true faces never e = refl
-zero-of false faces never e = absurd (never e)
+-- copied, or by lists that never say so
+zero-of : (test : Bool) (lists : Verdict) → (lists ≡ Copied → ⊥) → cond test Copied lists ≡ Copied → test ≡ true
+zero-of true lists never e = refl
+zero-of false lists never e = absurd (never e)
 
 -- a copied input is copiable
 pub copied : (i : Input) → verdictOf i ≡ Copied → Copiable i
@@ -148,7 +159,11 @@ copied i e =
     let seven = past copies (some (badCoordinate (i .bound)) (i .points)) (Refused 7 _) _ refl refl (p .rest) in
     record {
       sized = sized-of i p (seven .0);
-      ratio-zero = zero-of (eq (i .options .ratio) zeroFloat) _ (faces-not-copied (pointsIn i) 0 (facesOf (facesIn i) (i .faces))) (seven .1);
+      ratio-zero =
+          zero-of (eq (i .options .ratio) zeroFloat) _
+          (neither-copies (faceVerdict (pointsIn i) 0 (facesOf (facesIn i) (i .faces))) (marginVerdict (pointsIn i) (i .margin))
+          (faces-not-copied (pointsIn i) 0 (facesOf (facesIn i) (i .faces))) (margin-not-copied (pointsIn i) (i .margin)))
+          (seven .1);
     }
 
 -- a copiable input is copied

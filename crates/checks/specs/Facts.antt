@@ -11,7 +11,7 @@ use Rattle.lists.specs.Lists.{every, FirstAt}
 use Rattle.walk.specs.Faces.{proper, facesOf}
 use Rattle.meaning.specs.Input.{Input, pointsIn, facesIn}
 use Rattle.bits.specs.Cut.{zeroFloat, oneFloat}
-use Rattle.meaning.specs.Answers.{badLimit, badCoordinate, outside}
+use Rattle.meaning.specs.Answers.{badLimit, badCoordinate, badEntry, outside}
 
 -- none of 1 to 7 holds
 pub record Sized (i : Input) : Type 0 where
@@ -43,11 +43,12 @@ pub record Copiable (i : Input) : Type 0 where
   pub sized : Sized i
   pub ratio-zero : eq (i .options .ratio) zeroFloat ≡ true
 
--- none of 1 to 9 holds, and the ratio is not zero: so every face has three distinct points below V
+-- none of 1 to 9 and 12 holds, and the ratio is not zero: so every face has three distinct points below V, and no entry of the margin is bad
 pub record Admissible (i : Input) : Type 0 where
   pub sized : Sized i
   pub ratio-above : eq (i .options .ratio) zeroFloat ≡ false
   pub faces-proper : every (proper (pointsIn i)) (facesOf (facesIn i) (i .faces)) ≡ true
+  pub margin-good : (k : ℕ) → k < length (i .margin) → badEntry (pointsIn i) (i .margin) k ≡ false
 
 -- ---- the place of a refusal
 
@@ -64,8 +65,8 @@ pub record LowestBad (v : ℕ) (faces : List Face) (n p : ℕ) : Type 0 where
   pub lowest : FirstAt (improper v) noFace faces p
   pub number : n ≡ cond (outside v (getD faces p noFace)) 8 9
 
--- a number from 1 to 9, and a place that fits u32
+-- a number from 1 to 12, and a place that fits u32
 pub record RefusalFits (n p : ℕ) : Type 0 where
   pub number-least : 1 ≤ n
-  pub number-most : n ≤ 9
+  pub number-most : n ≤ 12
   pub place-fits : p < 2 ^ 32

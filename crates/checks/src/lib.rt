@@ -1,10 +1,10 @@
-// The checks of an input, in their order: answer numbers 1 to 9.
+// The checks of an input, in their order: answer numbers 1 to 9 and 12.
 // Tests are joined by `|` and `&`: each looks at all its parts, none of which can fail, and answers for NaN too.
 ghost use mathlib.Core.Path.{_≡_};
-ghost use Prim.Native.Nat.{_+_, _*_, _/_, _≤_};
+ghost use Prim.Native.Nat.{_+_, _*_, _/_, _≤_, _<_};
 ghost use lib.ListN.{length};
 ghost use Rattle.walk.specs.Faces.{facesOf, faceAt};
-ghost use Rattle.meaning.specs.Answers.{uneven, large, short, empty, badRatio, badLimit, badCoordinate, outside, doubled, faceVerdict, contentsVerdict, verdictOf};
+ghost use Rattle.meaning.specs.Answers.{uneven, large, short, empty, badRatio, badLimit, badCoordinate, outside, doubled, badEntry, andThen, faceVerdict, marginVerdict, contentsVerdict, verdictOf};
 ghost use Rattle.lists.specs.Lists.{firstOf};
 use meaning::Options;
 use meaning::Rooms;
@@ -130,10 +130,51 @@ fn check_faces(v: u32, faces: &[u32]) -> Verdict
     Verdict::Admitted
 }
 
-// 7 to 9: what the lists hold. Ratio zero is answered after 7 and before 8, faces unchecked.
-fn check_contents(points: &[f32], faces: &[u32], ratio: f32, bound: f32) -> Verdict
+// 12: the margin's entry k is not below v, or not above the entry before it.
+fn bad_entry(v: u32, margin: &[u32], k: usize) -> bool
+    requires { ⌜ k < length (now margin) ⌝ }
+    ensures { λ r. ⌜ r ≡ badEntry v (now (margin .entry)) k ⌝ }
+{
+    if margin[k] >= v {
+        return true;
+    }
+    if k == 0 {
+        return false;
+    }
+    margin[k] <= margin[k - 1]
+}
+
+// 12: the margin's first bad entry counts.
+fn check_margin(v: u32, margin: &[u32]) -> Verdict
+    requires { ⌜ v ≤ 65536 ⌝ }
+    ensures { λ r. ⌜ r ≡ marginVerdict v (now (margin .entry)) ⌝ }
+{
+    let mut k = 0;
+    while k < margin.len() {
+        if bad_entry(v, margin, k) {
+            return Verdict::Refused(12, k as u32);
+        }
+        k += 1;
+    }
+    Verdict::Admitted
+}
+
+// 8, 9 and 12: the faces, and then the margin.
+fn check_numbers(v: u32, faces: &[u32], margin: &[u32]) -> Verdict
+    requires { ⌜ (v ≤ 65536) × (length (now faces) / 3 ≤ 131072) ⌝ }
+    ensures { λ r. ⌜ r ≡ andThen (faceVerdict v 0 (facesOf (length (now (faces .entry)) / 3) (now (faces .entry)))) (marginVerdict v (now (margin .entry))) ⌝ }
+{
+    match check_faces(v, faces) {
+        Verdict::Refused(number, place) => Verdict::Refused(number, place),
+        Verdict::Copied => Verdict::Copied,
+        Verdict::Admitted => check_margin(v, margin),
+    }
+}
+
+// 7 to 9 and 12: what the lists hold. Ratio zero is answered after 7 and before 8, faces and margin unchecked.
+fn check_contents(points: &[f32], faces: &[u32], margin: &[u32], ratio: f32, bound: f32) -> Verdict
     requires { ⌜ (length (now points) / 3 ≤ 65536) × (length (now faces) / 3 ≤ 131072) ⌝ }
-    ensures { λ r. ⌜ r ≡ contentsVerdict (now (points .entry)) (now (faces .entry)) ratio bound ⌝ }
+    ensures { λ r. ⌜ r ≡ contentsVerdict (now (points .entry)) (now (faces .entry)) (now (margin .entry)) ratio bound ⌝ }
 {
     let bad = first_bad(bound, points);
     if bad < points.len() {
@@ -141,19 +182,20 @@ fn check_contents(points: &[f32], faces: &[u32], ratio: f32, bound: f32) -> Verd
     } else if ratio == 0.0 {
         Verdict::Copied
     } else {
-        check_faces((points.len() / 3) as u32, faces)
+        check_numbers((points.len() / 3) as u32, faces, margin)
     }
 }
 
-// What an input is: the first of the numbers 1 to 9 that holds, in their order.
+// What an input is: the first of the numbers 1 to 9 and 12 that holds, in their order.
 pub fn verdict_of(
     points: &[f32],
     faces: &[u32],
+    margin: &[u32],
     rooms: Rooms,
     options: Options,
     bound: f32,
 ) -> Verdict
-    ensures { λ r. ⌜ r ≡ verdictOf (record { points = now (points .entry); faces = now (faces .entry); rooms = rooms; options = options; bound = bound }) ⌝ }
+    ensures { λ r. ⌜ r ≡ verdictOf (record { points = now (points .entry); faces = now (faces .entry); margin = now (margin .entry); rooms = rooms; options = options; bound = bound }) ⌝ }
 {
     let v = points.len() / 3;
     let f = faces.len() / 3;
@@ -172,6 +214,6 @@ pub fn verdict_of(
     } else if bad_limit(limit) {
         Verdict::Refused(6, 0)
     } else {
-        check_contents(points, faces, ratio, bound)
+        check_contents(points, faces, margin, ratio, bound)
     }
 }

@@ -35,6 +35,7 @@ fn tell(answer: &mut [u32; 5], r: Answer)
 pub extern "C" fn hjoltravan_thin(
     points: &[f32],
     faces: &[u32],
+    margin: &[u32],
     ratio: f32,
     preserve: bool,
     limited: bool,
@@ -46,7 +47,7 @@ pub extern "C" fn hjoltravan_thin(
     work_f64: &mut [f64],
     answer: &mut [u32; 5],
 )
-    ensures { λ _. ⌜ Called Heap (inputOf (now (points .entry)) (now (faces .entry)) (optionsOf ratio preserve limited limit) (lent (now («out_points» .entry)) (now («out_faces» .entry)) (now («work_u32» .entry)) (now («work_f32» .entry)) (now («work_f64» .entry)))) (lent (now («out_points» .entry)) (now («out_faces» .entry)) (now («work_u32» .entry)) (now («work_f32» .entry)) (now («work_f64» .entry))) (lent (now («out_points» .exit)) (now («out_faces» .exit)) (now («work_u32» .exit)) (now («work_f32» .exit)) (now («work_f64» .exit))) (now (answer .exit)) ⌝ }
+    ensures { λ _. ⌜ Called Heap (inputOf (now (points .entry)) (now (faces .entry)) (now (margin .entry)) (optionsOf ratio preserve limited limit) (lent (now («out_points» .entry)) (now («out_faces» .entry)) (now («work_u32» .entry)) (now («work_f32» .entry)) (now («work_f64» .entry)))) (lent (now («out_points» .entry)) (now («out_faces» .entry)) (now («work_u32» .entry)) (now («work_f32» .entry)) (now («work_f64» .entry))) (lent (now («out_points» .exit)) (now («out_faces» .exit)) (now («work_u32» .exit)) (now («work_f32» .exit)) (now («work_f64» .exit))) (now (answer .exit)) ⌝ }
 {
     let options = options_of(ratio, preserve, limited, limit);
     let mut folds = [0u32; 1];
@@ -54,6 +55,7 @@ pub extern "C" fn hjoltravan_thin(
         Engine::Heap,
         points,
         faces,
+        margin,
         options,
         out_points,
         out_faces,
@@ -70,6 +72,7 @@ pub extern "C" fn hjoltravan_thin(
 pub extern "C" fn hjoltravan_thin_plain(
     points: &[f32],
     faces: &[u32],
+    margin: &[u32],
     ratio: f32,
     preserve: bool,
     limited: bool,
@@ -81,7 +84,7 @@ pub extern "C" fn hjoltravan_thin_plain(
     work_f64: &mut [f64],
     answer: &mut [u32; 5],
 )
-    ensures { λ _. ⌜ Called Plain (inputOf (now (points .entry)) (now (faces .entry)) (optionsOf ratio preserve limited limit) (lent (now («out_points» .entry)) (now («out_faces» .entry)) (now («work_u32» .entry)) (now («work_f32» .entry)) (now («work_f64» .entry)))) (lent (now («out_points» .entry)) (now («out_faces» .entry)) (now («work_u32» .entry)) (now («work_f32» .entry)) (now («work_f64» .entry))) (lent (now («out_points» .exit)) (now («out_faces» .exit)) (now («work_u32» .exit)) (now («work_f32» .exit)) (now («work_f64» .exit))) (now (answer .exit)) ⌝ }
+    ensures { λ _. ⌜ Called Plain (inputOf (now (points .entry)) (now (faces .entry)) (now (margin .entry)) (optionsOf ratio preserve limited limit) (lent (now («out_points» .entry)) (now («out_faces» .entry)) (now («work_u32» .entry)) (now («work_f32» .entry)) (now («work_f64» .entry)))) (lent (now («out_points» .entry)) (now («out_faces» .entry)) (now («work_u32» .entry)) (now («work_f32» .entry)) (now («work_f64» .entry))) (lent (now («out_points» .exit)) (now («out_faces» .exit)) (now («work_u32» .exit)) (now («work_f32» .exit)) (now («work_f64» .exit))) (now (answer .exit)) ⌝ }
 {
     let options = options_of(ratio, preserve, limited, limit);
     let mut folds = [0u32; 1];
@@ -89,6 +92,7 @@ pub extern "C" fn hjoltravan_thin_plain(
         Engine::Plain,
         points,
         faces,
+        margin,
         options,
         out_points,
         out_faces,
@@ -105,6 +109,7 @@ pub extern "C" fn hjoltravan_thin_plain(
 pub extern "C" fn hjoltravan_thin_folds(
     points: &[f32],
     faces: &[u32],
+    margin: &[u32],
     ratio: f32,
     preserve: bool,
     limited: bool,
@@ -117,13 +122,14 @@ pub extern "C" fn hjoltravan_thin_folds(
     folds: &mut [u32],
     answer: &mut [u32; 5],
 )
-    ensures { λ _. ⌜ CalledWithFolds Heap (inputOf (now (points .entry)) (now (faces .entry)) (optionsOf ratio preserve limited limit) (lent (now («out_points» .entry)) (now («out_faces» .entry)) (now («work_u32» .entry)) (now («work_f32» .entry)) (now («work_f64» .entry)))) (lent (now («out_points» .entry)) (now («out_faces» .entry)) (now («work_u32» .entry)) (now («work_f32» .entry)) (now («work_f64» .entry))) (lent (now («out_points» .exit)) (now («out_faces» .exit)) (now («work_u32» .exit)) (now («work_f32» .exit)) (now («work_f64» .exit))) (now (folds .entry)) (now (folds .exit)) (now (answer .exit)) ⌝ }
+    ensures { λ _. ⌜ CalledWithFolds Heap (inputOf (now (points .entry)) (now (faces .entry)) (now (margin .entry)) (optionsOf ratio preserve limited limit) (lent (now («out_points» .entry)) (now («out_faces» .entry)) (now («work_u32» .entry)) (now («work_f32» .entry)) (now («work_f64» .entry)))) (lent (now («out_points» .entry)) (now («out_faces» .entry)) (now («work_u32» .entry)) (now («work_f32» .entry)) (now («work_f64» .entry))) (lent (now («out_points» .exit)) (now («out_faces» .exit)) (now («work_u32» .exit)) (now («work_f32» .exit)) (now («work_f64» .exit))) (now (folds .entry)) (now (folds .exit)) (now (answer .exit)) ⌝ }
 {
     let options = options_of(ratio, preserve, limited, limit);
     let r = thinning::thin(
         Engine::Heap,
         points,
         faces,
+        margin,
         options,
         out_points,
         out_faces,

@@ -2,4 +2,5 @@
 pub mod Determined
 pub mod VerdictOrder
 pub mod FaceVerdictLaws
+pub mod MarginVerdictLaws
 pub mod PartsLaws

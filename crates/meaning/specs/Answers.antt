@@ -1,14 +1,14 @@
--- The answer numbers 1 to 9 of document 01, in the order they are checked, each "given exactly when".
-use Prim.Native.Nat.{ℕ, suc, _+_, _*_, _/_, _%_}
+-- The answer numbers 1 to 9 of document 01 and 12 of document 02, in the order they are checked, each "given exactly when".
+use Prim.Native.Nat.{ℕ, suc, _+_, _-_, _*_, _/_, _%_}
 use mathlib.Core.List.{List, [], _∷_}
 use mathlib.Core.Bool.{Bool, false, not, _&&_, _||_, cond}
-use lib.Dec.{ltb, eqb}
-use lib.ListN.{length}
+use lib.Dec.{ltb, leb, eqb}
+use lib.ListN.{length, getD}
 use lib.Ieee.{Float, isNan, le, eq, neg}
 use lib.Ieee.Scale.{finite}
 use Rattle.bits.specs.Cut.{zeroFloat, oneFloat}
 use Rattle.walk.specs.declared.Face.{Face}
-use Rattle.lists.specs.Lists.{some, firstOf}
+use Rattle.lists.specs.Lists.{some, firstOf, below}
 use Rattle.walk.specs.Faces.{facesOf}
 use Rattle.placement.specs.declared.Limit.{Limit}
 use Rattle.placement.specs.declared.Limit.the-variants.{Unlimited, AtMost}
@@ -61,22 +61,39 @@ outside v f = not (ltb (f .a) v && ltb (f .b) v && ltb (f .c) v)
 abbrev pub doubled : Face → Bool
 doubled f = eqb (f .a) (f .b) || eqb (f .b) (f .c) || eqb (f .c) (f .a)
 
+-- 12: the margin's entry k is not below v, or not above the entry before it
+abbrev pub badEntry : ℕ → List ℕ → ℕ → Bool
+badEntry v margin k = not (ltb (getD margin k 0) v) || (ltb 0 k && leb (getD margin k 0) (getD margin (k - 1) 0))
+
 -- ---- the order
+
+-- a verdict; where it admits, the next one
+abbrev pub andThen : Verdict → Verdict → Verdict
+andThen (Refused number place) next = Refused number place
+andThen Copied next = Copied
+andThen Admitted next = next
 
 -- 8 and 9: the lowest bad face counts, and within it 8 comes first. k is the number of the first face of the list.
 unfoldable pub faceVerdict : ℕ → ℕ → List Face → Verdict
 faceVerdict v k [] = Admitted
 faceVerdict v k (f ∷ fs) = cond (outside v f) (Refused 8 k) (cond (doubled f) (Refused 9 k) (faceVerdict v (suc k) fs))
 
--- 7 to 9, of the lists, the ratio and the bound: ratio 0.0 or -0.0 is answered after 7 and before 8, faces unchecked
-unfoldable pub contentsVerdict : List Float → List ℕ → Float → Float → Verdict
-unfolding faceVerdict some firstOf
-contentsVerdict points faces ratio bound =
+-- 12: the margin's first bad entry counts
+unfoldable pub marginVerdict : ℕ → List ℕ → Verdict
+unfolding some firstOf below
+marginVerdict v margin =
+    cond (some (badEntry v margin) (below (length margin))) (Refused 12 (firstOf (badEntry v margin) (below (length margin)))) Admitted
+
+-- 7 to 9 and 12, of the lists, the ratio and the bound: ratio 0.0 or -0.0 is answered after 7 and before 8, faces and margin unchecked
+unfoldable pub contentsVerdict : List Float → (faces margin : List ℕ) → Float → Float → Verdict
+unfolding faceVerdict marginVerdict some firstOf
+contentsVerdict points faces margin ratio bound =
     cond (some (badCoordinate bound) points) (Refused 7 (firstOf (badCoordinate bound) points))
     (cond (eq ratio zeroFloat) Copied
-    (faceVerdict (length points / 3) 0 (facesOf (length faces / 3) faces)))
+    (andThen (faceVerdict (length points / 3) 0 (facesOf (length faces / 3) faces))
+    (marginVerdict (length points / 3) margin)))
 
--- 1 to 9
+-- 1 to 9 and 12
 unfoldable pub verdictOf : Input → Verdict
 unfolding contentsVerdict
 verdictOf i =
@@ -86,4 +103,4 @@ verdictOf i =
     (cond (empty (pointsIn i) (facesIn i)) (Refused 4 0)
     (cond (badRatio (i .options .ratio)) (Refused 5 0)
     (cond (badLimit (i .options .limit)) (Refused 6 0)
-    (contentsVerdict (i .points) (i .faces) (i .options .ratio) (i .bound)))))))
+    (contentsVerdict (i .points) (i .faces) (i .margin) (i .options .ratio) (i .bound)))))))

@@ -32,11 +32,12 @@ abbrev pub lent : (points : List Float) (faces u32s : List ℕ) (f32s f64s : Lis
 lent points faces u32s f32s f64s = record { points = points; faces = faces; u32s = u32s; f32s = f32s; f64s = f64s }
 
 -- the input of a call: of the lent buffers only their lengths count
-abbrev pub inputOf : (points : List Float) (faces : List ℕ) (options : Options) (b : Lent) → Input
-inputOf points faces options b =
+abbrev pub inputOf : (points : List Float) (faces margin : List ℕ) (options : Options) (b : Lent) → Input
+inputOf points faces margin options b =
     record {
       points = points;
       faces = faces;
+      margin = margin;
       rooms = record { points = length (b .points); faces = length (b .faces); u32s = length (b .u32s); f32s = length (b .f32s); f64s = length (b .f64s) };
       options = options;
       bound = coordinateBound;

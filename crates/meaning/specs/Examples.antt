@@ -1,4 +1,4 @@
--- Document 01's examples of whole calls, as one list with one proof over it. The proof computes them from the definitions.
+-- Document 01's examples of whole calls, and some with a margin, as one list with one proof over it. The proof computes them from the definitions.
 use Prim.Native.Nat.{ℕ}
 use mathlib.Core.Path.{_≡_, refl}
 use mathlib.Core.List.{List, [], _∷_, map, flatMap}
@@ -14,6 +14,7 @@ use Rattle.geometry.specs.Points.{norm, normal, allFinite}
 use Rattle.geometry.specs.Planes.{unitNormal, planeOf}
 use Rattle.placement.specs.declared.Limit.{Limit}
 use Rattle.placement.specs.declared.Limit.the-variants.{Unlimited, AtMost}
+use Rattle.placement.specs.Choices.{kindNumber}
 use Rattle.placement.specs.Errors.{errorAt}
 use Rattle.placement.specs.Inverses.{inverse}
 use Rattle.placement.specs.Pairs.{pairQuadric, pairLength, pairPlace, pairCost, eligible}
@@ -21,40 +22,45 @@ use Rattle.placement.specs.Places.{solved, stands, tested, cheaper, fallback, p
 use Rattle.walk.specs.declared.Pair.{Pair}
 use Rattle.lists.specs.Lists as lists
 use Rattle.lists.specs.Lists.{those, every, some, without, below, firstOf}
-use Rattle.walk.specs.Faces.{borderPoint, borderCount}
+use Rattle.walk.specs.Faces.{borderPoint}
 use Rattle.walk.specs.Fold.{foldedFaces, foldedMesh}
 use Rattle.walk.specs.FoldTest.{fairFace, allowed}
 use Rattle.walk.specs.Pairs.{pairOf, pairsBelow, eligiblePair, order, least, opened}
 use Rattle.walk.specs.Walk.{walk, foldList, foldOf, budget, started, tried, chosen, answer, after}
 use Rattle.walk.specs.Output.{used, placeIn, renumbered, numbersOf}
 use Rattle.meaning.specs.Arithmetic.{fairPoints, mergedVertex, rulesOf}
-use Rattle.meaning.specs.Start.{gathered, startMesh}
+use Rattle.meaning.specs.Start.{gathered, startKind, fixedCount, startMesh}
 use Rattle.meaning.specs.Input.{Input}
-use Rattle.meaning.specs.Answers.{faceVerdict, contentsVerdict, verdictOf}
+use Rattle.meaning.specs.Answers.{faceVerdict, marginVerdict, contentsVerdict, verdictOf}
 use Rattle.meaning.specs.declared.Answer.{Answer}
 use Rattle.meaning.specs.Call.{coordinateBound}
 use Rattle.meaning.specs.Outcome.{rulesIn, startOf, targetOf, lastMesh, foldsWalked, partsIn, refusal, Outcome, outcomeBy, outcome, foldsBy, foldsOf, pairNumbers}
 
--- a mesh, its points by their bits, with a ratio by its bits, preserve on or off and a limit, and room for ten points and ten faces
-abbrev meshWith : List ℕ → List ℕ → ℕ → Bool → Limit → Input
-meshWith points faces ratio preserve limit =
+-- a mesh, its points by their bits, with a margin, a ratio by its bits, preserve on or off and a limit, and room for ten points and ten faces
+abbrev meshWith : (points faces margin : List ℕ) → ℕ → Bool → Limit → Input
+meshWith points faces margin ratio preserve limit =
     record {
       points = map (ofBits binary32) points;
       faces = faces;
+      margin = margin;
       rooms = record { points = 30; faces = 30; u32s = 480; f32s = 160; f64s = 220 };
       options = record { ratio = ofBits binary32 ratio; preserve = preserve; limit = limit };
       bound = coordinateBound;
     }
 
 -- the example square: (0,0,0) (2,0,0) (2,2,0) (0,2,0) (1,1,0)
-abbrev square : ℕ → Bool → Limit → Input
-square =
+abbrev held : (margin : List ℕ) → ℕ → Bool → Limit → Input
+held =
     meshWith
     (0 ∷ 0 ∷ 0 ∷ 0x4000_0000 ∷ 0 ∷ 0 ∷ 0x4000_0000 ∷ 0x4000_0000 ∷ 0 ∷ 0 ∷ 0x4000_0000 ∷ 0 ∷ 0x3f80_0000 ∷ 0x3f80_0000 ∷ 0 ∷ [])
     (0 ∷ 1 ∷ 4 ∷ 1 ∷ 2 ∷ 4 ∷ 2 ∷ 3 ∷ 4 ∷ 3 ∷ 0 ∷ 4 ∷ [])
 
+-- and without a margin
+abbrev square : ℕ → Bool → Limit → Input
+square = held []
+
 -- one triangle: (0,0,0) (1,0,0) (0,1,0)
-abbrev triangle : ℕ → Bool → Limit → Input
+abbrev triangle : (margin : List ℕ) → ℕ → Bool → Limit → Input
 triangle = meshWith (0 ∷ 0 ∷ 0 ∷ 0x3f80_0000 ∷ 0 ∷ 0 ∷ 0 ∷ 0x3f80_0000 ∷ 0 ∷ []) (0 ∷ 1 ∷ 2 ∷ [])
 
 -- a call that is answered with 0: the points and faces written, and the folds made
@@ -78,7 +84,7 @@ pub record Example : Type 0 where
   pub input : Input
   pub out : Shown
 
--- document 01's examples
+-- document 01's examples, and some with a margin
 abbrev pub examples : List Example
 examples =
     -- the example square at ratio 0.5: (0,1) is closed, and (0,4) folds
@@ -96,7 +102,7 @@ examples =
     -- the same with preserve off and limit 1.0
     ∷ record { input = square 0x3f00_0000 false (AtMost (ofBits binary32 0x3f80_0000)); out = record { answer = refusal 11 0; points = []; faces = []; folds = [] } }
     -- one triangle at ratio 1: an empty mesh
-    ∷ record { input = triangle 0x3f80_0000 false Unlimited; out = record { answer = done 0 0 1; points = []; faces = []; folds = 0 ∷ 1 ∷ [] } }
+    ∷ record { input = triangle [] 0x3f80_0000 false Unlimited; out = record { answer = done 0 0 1; points = []; faces = []; folds = 0 ∷ 1 ∷ [] } }
     -- the square at ratio 2^-25: nothing folds, and points are numbered by first use
     ∷ record {
       input = square 0x3300_0000 false Unlimited;
@@ -107,12 +113,36 @@ examples =
         folds = [];
       };
     }
+    -- the first example with the point 0 held: (1,4) folds in place of (0,4)
+    ∷ record {
+      input = held (0 ∷ []) 0x3f00_0000 false Unlimited;
+      out = record {
+        answer = done 4 2 1;
+        points = 0x4000_0000 ∷ 0x4000_0000 ∷ 0 ∷ 0 ∷ 0x4000_0000 ∷ 0 ∷ 0x4000_0000 ∷ 0 ∷ 0 ∷ 0 ∷ 0 ∷ 0 ∷ [];
+        faces = 0 ∷ 1 ∷ 2 ∷ 1 ∷ 3 ∷ 2 ∷ [];
+        folds = 1 ∷ 4 ∷ [];
+      };
+    }
+    -- with the point 4 held no fold is allowed
+    ∷ record { input = held (4 ∷ []) 0x3f00_0000 false Unlimited; out = record { answer = refusal 10 1; points = []; faces = []; folds = [] } }
+    -- with preserve on: a border point that the margin names counts once
+    ∷ record { input = held (0 ∷ 4 ∷ []) 0x3f00_0000 true Unlimited; out = record { answer = refusal 10 5; points = []; faces = []; folds = [] } }
+    -- the triangle with the point 2 held: its one face is folded away, and the point is used no more
+    ∷ record { input = triangle (2 ∷ []) 0x3f80_0000 false Unlimited; out = record { answer = done 0 0 1; points = []; faces = []; folds = 0 ∷ 1 ∷ [] } }
     ∷ []
 
 -- they come out
 pub examples-hold : map (λ e. shown (outcome (e .input)) (foldsOf (e .input))) examples ≡ map (λ e. e .out) examples
-unfolding outcome outcomeBy pairNumbers foldsOf foldsBy partsIn foldsWalked lastMesh targetOf startOf startMesh gathered rulesOf mergedVertex fairPoints numbersOf renumbered placeIn used foldList walk after answer chosen tried opened started least order budget foldOf pairsBelow foldedMesh allowed fairFace foldedFaces borderCount borderPoint without those every some below lists.sum placeOf fallback cheaper tested stands solved eligible pairCost pairPlace pairLength pairQuadric inverse errorAt planeOf unitNormal allFinite normal norm root rootBits finiteRoot bitsRoot.largest halfway fourfold steps floatKey orderKey narrowed cut target flatMap verdictOf contentsVerdict faceVerdict firstOf span climb size odd units round neg ieee.sum add sub mul div lt eq le ofInt toUnsigned isNan ofFields ofBits toBits
+unfolding outcome outcomeBy pairNumbers foldsOf foldsBy partsIn foldsWalked lastMesh targetOf startOf startMesh fixedCount startKind gathered rulesOf mergedVertex fairPoints numbersOf renumbered placeIn used foldList walk after answer chosen tried opened started least order budget foldOf pairsBelow foldedMesh allowed fairFace foldedFaces borderPoint without those every some below lists.sum placeOf fallback cheaper tested stands solved eligible pairCost pairPlace pairLength pairQuadric inverse errorAt planeOf unitNormal allFinite normal norm root rootBits finiteRoot bitsRoot.largest halfway fourfold steps floatKey orderKey narrowed cut target flatMap verdictOf contentsVerdict faceVerdict marginVerdict firstOf span climb size odd units round neg ieee.sum add sub mul div lt eq le ofInt toUnsigned isNan ofFields ofBits toBits
 examples-hold = refl
+
+-- ---- the kinds of points
+
+-- the square's kinds at the start with the points 0 and 4 in the margin, by their numbers: preserve off, and on
+pub kinds-hold : map (λ preserve. map (λ d. kindNumber (d .kind)) (startOf (held (0 ∷ 4 ∷ []) 0x3f00_0000 preserve Unlimited) .mesh .points)) (false ∷ true ∷ [])
+    ≡ (2 ∷ 0 ∷ 0 ∷ 0 ∷ 2 ∷ []) ∷ (2 ∷ 1 ∷ 1 ∷ 1 ∷ 2 ∷ []) ∷ []
+unfolding startOf startMesh startKind started some below lists.sum borderPoint
+kinds-hold = refl
 
 -- ---- the limit on a pair's length
 
@@ -126,5 +156,5 @@ limited limit = square 0x3f00_0000 false (AtMost (ofBits binary32 limit))
 
 -- they come out
 pub limits-hold : map (λ l. eligiblePair (rulesIn (limited (l .0))) (startOf (limited (l .0)) .mesh) (pairOf 0 1)) limits ≡ map (λ l. l .1) limits
-unfolding startOf startMesh gathered rulesOf started those some below lists.sum borderPoint placeOf fallback cheaper tested stands solved eligible pairCost pairPlace pairLength pairQuadric inverse errorAt planeOf unitNormal allFinite normal norm root rootBits finiteRoot bitsRoot.largest halfway fourfold steps floatKey orderKey narrowed span climb size odd units round neg ieee.sum add sub mul div lt eq le ofInt toUnsigned isNan ofFields ofBits toBits
+unfolding startOf startMesh startKind gathered rulesOf started those some below lists.sum borderPoint placeOf fallback cheaper tested stands solved eligible pairCost pairPlace pairLength pairQuadric inverse errorAt planeOf unitNormal allFinite normal norm root rootBits finiteRoot bitsRoot.largest halfway fourfold steps floatKey orderKey narrowed span climb size odd units round neg ieee.sum add sub mul div lt eq le ofInt toUnsigned isNan ofFields ofBits toBits
 limits-hold = refl

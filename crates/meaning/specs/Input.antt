@@ -1,4 +1,4 @@
--- What a call is given (document 01, "Input and lent memory").
+-- What a call is given (document 01, "Input and lent memory"; document 02, wish 2).
 use Prim.Native.Nat.{ℕ, _+_, _*_, _/_}
 use mathlib.Core.List.{List}
 use lib.ListN.{length, getD}
@@ -8,9 +8,11 @@ use Rattle.meaning.specs.declared.Options.{Options}
 use Rattle.meaning.specs.declared.Rooms.{Rooms}
 
 -- What a caller hands over, but for the buffers' contents: the lists, the lengths of the lent buffers, the options, and the bound on a coordinate's size.
+-- The margin is a list of point numbers: those that must not move.
 pub record Input : Type 0 where
   pub points : List Float
   pub faces : List ℕ
+  pub margin : List ℕ
   pub rooms : Rooms
   pub options : Options
   pub bound : Float

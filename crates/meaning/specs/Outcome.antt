@@ -1,4 +1,4 @@
--- The answer of a call and what comes out, for any input (document 01, "Answer numbers" and "Pairs, folds, ends").
+-- The answer of a call and what comes out, for any input (document 01, "Answer numbers" and "Pairs, folds, ends"; document 02, wish 2).
 use Prim.Native.Nat.{ℕ}
 use mathlib.Core.List.{List, [], _∷_}
 use mathlib.Core.Bool.{Bool, true, false, _&&_, cond}
@@ -8,10 +8,10 @@ use lib.Ieee.{Float}
 use Rattle.bits.specs.Cut.{target}
 use Rattle.placement.specs.declared.pair.Vertex.{Vertex}
 use Rattle.walk.specs.declared.Pair.{Pair}
-use Rattle.walk.specs.Faces.{facesOf, borderCount, Rules, Mesh}
+use Rattle.walk.specs.Faces.{facesOf, Rules, Mesh}
 use Rattle.walk.specs.Walk.{walk, foldList, State, started, budget, plainMachine}
 use Rattle.walk.specs.Output.{used, renumbered, numbersOf}
-use Rattle.meaning.specs.Start.{startMesh}
+use Rattle.meaning.specs.Start.{fixedCount, startMesh}
 use Rattle.meaning.specs.Arithmetic.{rulesOf}
 use Rattle.meaning.specs.declared.Verdict.{Verdict}
 use Rattle.meaning.specs.declared.Verdict.the-variants.{Refused, Copied, Admitted}
@@ -27,7 +27,7 @@ rulesIn i = rulesOf (i .options .limit) (i .bound)
 
 -- the state at the start
 unfoldable pub startOf : Input → State Vertex
-startOf i = started (rulesIn i) (startMesh (pointsIn i) (facesIn i) (i .points) (i .faces) (i .options .preserve))
+startOf i = started (rulesIn i) (startMesh (pointsIn i) (facesIn i) (i .points) (i .faces) (i .options .preserve) (i .margin))
 
 -- the number of faces to reach
 unfoldable pub targetOf : Input → ℕ
@@ -45,9 +45,9 @@ foldsWalked i = foldList (plainMachine (rulesIn i) (targetOf i)) (budget (facesI
 abbrev pub stuck : Input → Bool
 stuck i = eqb (length (foldsWalked i)) 0 && ltb (targetOf i) (facesIn i)
 
--- the border points of the input, where they are preserved
-abbrev pub bordersHeld : Input → ℕ
-bordersHeld i = cond (i .options .preserve) (borderCount (pointsIn i) (facesOf (facesIn i) (i .faces))) 0
+-- how many points of the input are fixed
+abbrev pub fixedIn : Input → ℕ
+fixedIn i = fixedCount (pointsIn i) (facesOf (facesIn i) (i .faces)) (i .options .preserve) (i .margin)
 
 -- ---- what comes out
 
@@ -68,9 +68,9 @@ pub record Outcome : Type 0 where
 abbrev pub refusal : ℕ → ℕ → Answer
 refusal number place = record { number = number; place = place; points = 0; faces = 0; folds = 0 }
 
--- 10 where border points are held, and else 11
+-- 10 where points are fixed, and their number is its place; else 11
 abbrev pub stuckAnswer : ℕ → Answer
-stuckAnswer borders = cond (ltb 0 borders) (refusal 10 borders) (refusal 11 0)
+stuckAnswer fixed = cond (ltb 0 fixed) (refusal 10 fixed) (refusal 11 0)
 
 -- live faces in face order, points numbered by first use
 abbrev pub thinnedOutcome : Input → Outcome
@@ -90,7 +90,7 @@ outcomeBy Copied i =
     record { answer = record { number = 0; place = 0; points = pointsIn i; faces = facesIn i; folds = 0 }; points = i .points; faces = i .faces; worked = true }
 outcomeBy Admitted i =
     cond (stuck i)
-    (record { answer = stuckAnswer (bordersHeld i); points = []; faces = []; worked = true })
+    (record { answer = stuckAnswer (fixedIn i); points = []; faces = []; worked = true })
     (thinnedOutcome i)
 
 -- the outcome of an input

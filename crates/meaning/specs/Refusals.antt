@@ -12,7 +12,7 @@ use Rattle.meaning.specs.declared.Verdict.{Verdict}
 use Rattle.meaning.specs.declared.Verdict.the-variants.{Refused, Copied, Admitted}
 use Rattle.meaning.specs.Input.{Input}
 use Rattle.bits.specs.Cut.{zeroFloat, oneFloat}
-use Rattle.meaning.specs.Answers.{faceVerdict, contentsVerdict, verdictOf}
+use Rattle.meaning.specs.Answers.{faceVerdict, marginVerdict, contentsVerdict, verdictOf}
 
 -- 2.0
 abbrev two : Float
@@ -34,17 +34,22 @@ above = fin false 8388609 (negsuc 2)
 abbrev minusZero : Float
 minusZero = fin true 0 (pos 0)
 
--- the square with its last coordinate, its last two point numbers, its ratio, its limit and the room for f64
-abbrev square : Float → ℕ → ℕ → Float → Limit → ℕ → Input
-square z b c ratio limit f64s =
+-- the square with a margin, its last coordinate, its last two point numbers, its ratio, its limit and the room for f64
+abbrev held : List ℕ → Float → ℕ → ℕ → Float → Limit → ℕ → Input
+held margin z b c ratio limit f64s =
     let o = zeroFloat in
     record {
       points = o ∷ o ∷ o ∷ two ∷ o ∷ o ∷ two ∷ two ∷ o ∷ o ∷ two ∷ o ∷ oneFloat ∷ oneFloat ∷ z ∷ [];
       faces = 0 ∷ 1 ∷ 4 ∷ 1 ∷ 2 ∷ 4 ∷ 2 ∷ 3 ∷ 4 ∷ 3 ∷ b ∷ c ∷ [];
+      margin = margin;
       rooms = record { points = 15; faces = 12; u32s = 208; f32s = 68; f64s = f64s };
       options = record { ratio = ratio; preserve = false; limit = limit };
       bound = most;
     }
+
+-- and without one
+abbrev square : Float → ℕ → ℕ → Float → Limit → ℕ → Input
+square = held []
 
 -- inputs, each with its verdict
 abbrev pub cases : List (Input × Verdict)
@@ -65,9 +70,20 @@ cases =
     -- 8 comes before 9 in one face
     ∷ (square zeroFloat 5 5 half Unlimited 104, Refused 8 3)
     ∷ (square zeroFloat 3 4 half Unlimited 104, Refused 9 3)
+    -- a margin of two points, and of all five
+    ∷ (held (1 ∷ 4 ∷ []) zeroFloat 0 4 half Unlimited 104, Admitted)
+    ∷ (held (0 ∷ 1 ∷ 2 ∷ 3 ∷ 4 ∷ []) zeroFloat 0 4 half Unlimited 104, Admitted)
+    -- an entry out of range, two that are equal, two that descend; the first bad entry counts
+    ∷ (held (5 ∷ []) zeroFloat 0 4 half Unlimited 104, Refused 12 0)
+    ∷ (held (0 ∷ 2 ∷ 2 ∷ 9 ∷ []) zeroFloat 0 4 half Unlimited 104, Refused 12 2)
+    ∷ (held (0 ∷ 3 ∷ 1 ∷ []) zeroFloat 0 4 half Unlimited 104, Refused 12 2)
+    ∷ (held (1 ∷ 2 ∷ 4294967295 ∷ []) zeroFloat 0 4 half Unlimited 104, Refused 12 2)
+    -- 9 comes before 12, and ratio zero too
+    ∷ (held (5 ∷ []) zeroFloat 3 4 half Unlimited 104, Refused 9 3)
+    ∷ (held (5 ∷ []) zeroFloat 0 4 minusZero Unlimited 104, Copied)
     ∷ []
 
 -- the verdicts come out
 pub refusals-hold : map (λ c. verdictOf (c .0)) cases ≡ map (λ c. c .1) cases
-unfolding verdictOf contentsVerdict faceVerdict some firstOf below lt eq le neg isNan
+unfolding verdictOf contentsVerdict faceVerdict marginVerdict some firstOf below lt eq le neg isNan
 refusals-hold = refl

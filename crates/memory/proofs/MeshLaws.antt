@@ -4,12 +4,10 @@ use Prim.Native.Nat.{ℕ, _+_, _*_, _≤_, _<_}
 use native.Mathlib.Omega.{arith}
 use mathlib.Core.Path.{_≡_, refl}
 use mathlib.Core.List.{List, map}
-use mathlib.Core.Bool.{Bool, true, false, cond}
 use lib.Ieee.{Float}
 use lib.ListN.{length, getD, set}
 use Rattle.geometry.specs.declared.Point.{Point}
 use Rattle.geometry.specs.declared.Quadric.{Quadric}
-use Rattle.placement.specs.declared.Kind.the-variants.{Free, Border}
 use Rattle.placement.specs.declared.pair.Vertex.{Vertex}
 use Rattle.placement.specs.Choices.{kindOf}
 use Rattle.walk.specs.declared.Face.{Face}
@@ -22,11 +20,6 @@ use Rattle.memory.specs.Points.{vertexAt, withPoint, withQuadric, meshOf
 use Rattle.memory.proofs.PointLaws.{point-stored, quadric-stored}
 use Rattle.lists.proofs.BelowLaws.{length-each, getD-each, each-same, each-moved, kept-same}
 use Rattle.memory.proofs.FrameLaws.{lives-but, face-but}
-
--- 1 stands for a border point, 0 for a free one
-pub kind-of-number : (border : Bool) → kindOf (cond border 1 0) ≡ cond border Border Free
-kind-of-number true = refl
-kind-of-number false = refl
 
 -- two meshes with the same points and the same faces
 pub mesh-of-parts : (points points' : List Vertex) (faces faces' : List Face) → points ≡ points' → faces ≡ faces' →

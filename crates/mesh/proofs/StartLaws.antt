@@ -4,21 +4,24 @@ use Prim.Native.Nat.{ℕ, _+_, _*_, _≤_, _<_}
 use native.Mathlib.Omega.{arith}
 use mathlib.Core.Path.{_≡_, refl, sym, ap, _∙_}
 use mathlib.Core.List.{List, [], _∷_, map}
-use mathlib.Core.Bool.{Bool, true, not, _&&_, cond}
+use mathlib.Core.Bool.{Bool, true, not}
 use lib.Ieee.{Float}
 use lib.ListN.{length, getD, length-map}
 use Rattle.geometry.specs.Quadrics.{zeroQuadric}
 use Rattle.lists.specs.Lists.{those, every, count, below}
-use Rattle.walk.specs.Faces.{proper, facesOf, borderPoint, faceAt}
+use Rattle.placement.specs.Choices.{kindNumber}
+use Rattle.placement.proofs.PlacementLaws.{kind-back}
+use Rattle.walk.specs.declared.Face.{Face}
+use Rattle.walk.specs.Faces.{proper, facesOf, faceAt}
 use Rattle.lists.proofs.EveryLaws.{every-count, every-at, every-from, every-head, every-tail, length-those, count-not}
 use Rattle.lists.proofs.BelowLaws.{length-below, getD-below, length-each, getD-each, each-same}
 use Rattle.memory.specs.Memory.{kind, lives, liveFaces}
-use Rattle.mesh.specs.Contracts.Laid.{Laid, Bordered}
+use Rattle.mesh.specs.Contracts.Laid.{Laid, Kinded}
 use Rattle.meaning.specs.Input.{pointAt}
 use Rattle.memory.specs.Points.{quadricAt, withPoints, vertexAt, meshOf}
-use Rattle.meaning.specs.Start.{gathered, startVertex, startMesh}
+use Rattle.meaning.specs.Start.{gathered, startKind, startVertex, startMesh}
 use Rattle.mesh.specs.Contracts.Quadrics.{QuadricsAre}
-use Rattle.memory.proofs.MeshLaws.{kind-of-number, mesh-of-parts}
+use Rattle.memory.proofs.MeshLaws.{mesh-of-parts}
 use Rattle.mesh.proofs.GatheredLaws.{gathered-same}
 use Rattle.mesh.proofs.QuadricLaws.{points-laid}
 use Rattle.memory.specs.Layout.{livesFrom}
@@ -56,11 +59,11 @@ module _ (f : ℕ) (faces w : List ℕ) (same : liveFaces f w ≡ facesOf f face
       (every-at (proper v) first (map (faceAt w) (below f)) (rw slots-laid all) k (rw length-each h))
 
 -- kinds are written past the faces
-pub bordered-laid : {v f n : ℕ} {preserve : Bool} {faces w₀ w w' : List ℕ} →
-    Laid v f faces w₀ w → Bordered v f preserve w w' n → liveFaces f w' ≡ facesOf f faces
+pub kinded-laid : {v f : ℕ} {preserve : Bool} {margin faces w₀ w w' : List ℕ} →
+    Laid v f faces w₀ w → Kinded v f preserve margin w w' → liveFaces f w' ≡ facesOf f faces
 unfolding liveFaces
-bordered-laid {v} {f} {n} {preserve} {faces} {w₀} {w} {w'} laid bordered =
-    let kept : (i : ℕ) → i < 4 * f → getD w' i 0 ≡ getD w i 0 = λ i l. bordered .but .under i (omega arith) in
+kinded-laid {v} {f} {preserve} {margin} {faces} {w₀} {w} {w'} laid kinded =
+    let kept : (i : ℕ) → i < 4 * f → getD w' i 0 ≡ getD w i 0 = λ i l. kinded .but .under i (omega arith) in
     let before = every-at (lives f w) 0 (below f) (all-live f faces w (laid .same-faces)) in
     let live : every (lives f w') (below f) ≡ true =
     every-from (lives f w') 0 (below f)
@@ -73,31 +76,31 @@ bordered-laid {v} {f} {n} {preserve} {faces} {w₀} {w} {w'} laid bordered =
 
 -- ---- the start
 
-module _ (v f : ℕ) (points : List Float) (faces : List ℕ) (preserve : Bool) (all-proper : every (proper v) (facesOf f faces) ≡ true) where
+module _ (v f : ℕ) (points : List Float) (faces : List ℕ) (preserve : Bool) (margin : List ℕ) (all-proper : every (proper v) (facesOf f faces) ≡ true) where
   -- from what the memory holds of each point
   pub mesh-started : (w : List ℕ) (p q : List Float) →
       liveFaces f w ≡ facesOf f faces →
-      ((x : ℕ) → x < v → kind v f w x ≡ cond (preserve && borderPoint v (facesOf f faces) x) 1 0) →
+      ((x : ℕ) → x < v → kind v f w x ≡ kindNumber (startKind v (facesOf f faces) preserve margin x)) →
       ((x : ℕ) → x < v → pointAt p x ≡ pointAt points x) →
       ((x : ℕ) → x < v → quadricAt q x ≡ gathered p x zeroQuadric (facesOf f faces)) →
-      meshOf v f w p q ≡ startMesh v f points faces preserve
+      meshOf v f w p q ≡ startMesh v f points faces preserve margin
   unfolding meshOf startMesh
   mesh-started w p q same kinds places quadrics =
       let faces-of = facesOf f faces in
       let quadric : (x : ℕ) → x < v → quadricAt q x ≡ gathered points x zeroQuadric faces-of =
       λ x h. quadrics x h ∙ gathered-same points p v places x zeroQuadric faces-of all-proper in
       mesh-of-parts _ _ _ _
-      (each-same (startVertex points faces-of v preserve) (vertexAt v f w p q) v (λ x h. rw (places x h, quadric x h, kinds x h, kind-of-number))) same
+      (each-same (startVertex points faces-of v preserve margin) (vertexAt v f w p q) v (λ x h. rw (places x h, quadric x h, kinds x h, kind-back))) same
 
   -- the same, as the contracts of laying hand it over. The quadrics may be laid before the kinds or after them, from w'.
-  pub mesh-laid : {n : ℕ} {w₀ w₁ w : List ℕ} {p q₀ q : List Float} (w' : List ℕ) (p₀ : List Float) →
-      Laid v f faces w₀ w₁ → Bordered v f preserve w₁ w n →
+  pub mesh-laid : {w₀ w₁ w : List ℕ} {p q₀ q : List Float} (w' : List ℕ) (p₀ : List Float) →
+      Laid v f faces w₀ w₁ → Kinded v f preserve margin w₁ w →
       3 * v ≤ length points → p ≡ withPoints v points p₀ →
       liveFaces f w' ≡ facesOf f faces →
       QuadricsAre v (λ x. gathered p x zeroQuadric (map (faceAt w') (below f))) q₀ q →
-      meshOf v f w p q ≡ startMesh v f points faces preserve
-  mesh-laid {n} {w₀} {w₁} {w} {p} {q₀} {q} w' p₀ laid bordered long copied same quadrics =
-      mesh-started w p q (bordered-laid laid bordered)
-      (λ x h. bordered .kinds x h ∙ rw (laid .same-faces))
+      meshOf v f w p q ≡ startMesh v f points faces preserve margin
+  mesh-laid {w₀} {w₁} {w} {p} {q₀} {q} w' p₀ laid kinded long copied same quadrics =
+      mesh-started w p q (kinded-laid laid kinded)
+      (λ x h. kinded .kinds x h ∙ ap (λ (fs : List Face). kindNumber (startKind v fs preserve margin x)) (laid .same-faces))
       (λ x h. rw copied (points-laid v points p₀ long x h))
       (λ x h. quadrics .at x h ∙ ap (gathered p x zeroQuadric) (slots-laid f faces w' same))

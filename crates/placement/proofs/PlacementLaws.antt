@@ -11,7 +11,7 @@ use mir.ValLaws.{toZ-ofZ}
 use Rattle.geometry.specs.declared.Point.{Point}
 use Rattle.geometry.specs.declared.Quadric.{Quadric}
 use Rattle.placement.specs.declared.Kind.{Kind}
-use Rattle.placement.specs.declared.Kind.the-variants.{Free, Border}
+use Rattle.placement.specs.declared.Kind.the-variants.{Free, Border, Margin}
 use Rattle.placement.specs.declared.Limit.{Limit}
 use Rattle.placement.specs.declared.pair.Vertex.{Vertex}
 use Rattle.placement.specs.declared.pair.Candidate.{Candidate}
@@ -68,3 +68,4 @@ candidate-none limit bound keep remove is = sym (eligible-is limit bound keep re
 pub kind-back : (k : Kind) → kindOf (kindNumber k) ≡ k
 kind-back Free = refl
 kind-back Border = refl
+kind-back Margin = refl

@@ -8,10 +8,11 @@ ghost use mathlib.Core.Path.{_≡_};
 ghost use Rattle.placement.specs.Choices.{kindNumber, kindOf, fixed, limitOf, aboveLimit};
 use geometry::Point;
 
-// Whether a point may move: it is free, or on the border and fixed.
+// Whether a point may move: it is free, or fixed, on the border or as a margin point.
 pub enum Kind {
     Free,
     Border,
+    Margin,
 }
 
 // The length that a pair may have: any, or at most so much.
@@ -40,17 +41,20 @@ pub fn kind_number(kind: Kind) -> u32
     match kind {
         Kind::Free => 0,
         Kind::Border => 1,
+        Kind::Margin => 2,
     }
 }
 
-// The kind that a number stands for: 0 is free, and any other is border.
+// The kind that a number stands for: 0 is free, 1 is border, and any other is margin.
 pub fn kind_of(number: u32) -> Kind
     ensures { λ r. ⌜ r ≡ kindOf number ⌝ }
 {
     if number == 0 {
         Kind::Free
-    } else {
+    } else if number == 1 {
         Kind::Border
+    } else {
+        Kind::Margin
     }
 }
 
@@ -61,6 +65,7 @@ pub fn is_fixed(kind: Kind) -> bool
     match kind {
         Kind::Free => false,
         Kind::Border => true,
+        Kind::Margin => true,
     }
 }
 

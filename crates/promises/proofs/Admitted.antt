@@ -1,4 +1,5 @@
--- What an admitted input is: at most 65,536 points and 131,072 faces, no bad coordinate, and faces of three distinct points that there are.
+-- What an admitted input is: at most 65,536 points and 131,072 faces, no bad coordinate, faces of three distinct points that there are, and no bad entry
+-- in the margin.
 -- Assumes nothing.
 use Prim.Native.Nat.{_≤_}
 use mathlib.Core.Path.{_≡_, refl}
@@ -15,9 +16,10 @@ use Rattle.walk.specs.Faces.{proper}
 use Rattle.meaning.specs.declared.Verdict.{Verdict}
 use Rattle.meaning.specs.declared.Verdict.the-variants.{Refused, Copied, Admitted}
 use Rattle.meaning.specs.Input.{Input, pointsIn, facesIn}
-use Rattle.meaning.specs.Answers.{uneven, large, short, empty, badRatio, badLimit, badCoordinate, faceVerdict, contentsVerdict, verdictOf}
-use Rattle.meaning.proofs.VerdictOrder.{admits, unrefused, past}
+use Rattle.meaning.specs.Answers.{uneven, large, short, empty, badRatio, badLimit, badCoordinate, andThen, faceVerdict, marginVerdict, contentsVerdict, verdictOf}
+use Rattle.meaning.proofs.VerdictOrder.{admits, unrefused, past, each-admits}
 use Rattle.meaning.proofs.FaceVerdictLaws.{faces-proper-of}
+use Rattle.meaning.proofs.MarginVerdictLaws.{someBad, margin-good}
 use Rattle.promises.specs.Steps.{givenFaces}
 use Rattle.promises.specs.Finite.{small}
 
@@ -26,7 +28,8 @@ pub record Checked (i : Input) (w : Verdict) : Type 0 where
   pub points-most : pointsIn i ≤ 65536
   pub faces-most : facesIn i ≤ 131072
   pub coordinates-good : some (badCoordinate (i .bound)) (i .points) ≡ false
-  pub then-faces : cond (eq (i .options .ratio) zeroFloat) Copied (faceVerdict (pointsIn i) 0 (givenFaces i)) ≡ w
+  pub then-lists :
+      cond (eq (i .options .ratio) zeroFloat) Copied (andThen (faceVerdict (pointsIn i) 0 (givenFaces i)) (marginVerdict (pointsIn i) (i .margin))) ≡ w
 
 pub checked : (i : Input) (w : Verdict) → unrefused w ≡ true → verdictOf i ≡ w → Checked i w
 unfolding verdictOf contentsVerdict
@@ -43,7 +46,7 @@ checked i w fine told =
       points-most = ltb-false 65536 (pointsIn i) (few .0);
       faces-most = ltb-false 131072 (facesIn i) (few .1);
       coordinates-good = seven .0;
-      then-faces = seven .1;
+      then-lists = seven .1;
     }
 
 -- every coordinate is finite and at most the bound in size
@@ -57,16 +60,19 @@ pub record Passed (i : Input) : Type 0 where
   pub coordinates-small : every (small (i .bound)) (i .points) ≡ true
   pub ratio-above : eq (i .options .ratio) zeroFloat ≡ false
   pub faces-proper : every (proper (pointsIn i)) (givenFaces i) ≡ true
+  pub entries-good : someBad (pointsIn i) (i .margin) ≡ false
 
 -- an admitted input has passed
 pub passed : (i : Input) → verdictOf i ≡ Admitted → Passed i
 passed i admitted =
     let found = checked i Admitted refl admitted in
-    let zero = past admits (eq (i .options .ratio) zeroFloat) Copied _ refl refl (found .then-faces) in
+    let zero = past admits (eq (i .options .ratio) zeroFloat) Copied _ refl refl (found .then-lists) in
+    let lists = each-admits (faceVerdict (pointsIn i) 0 (givenFaces i)) (marginVerdict (pointsIn i) (i .margin)) (zero .1) in
     record {
       points-most = found .points-most;
       faces-most = found .faces-most;
       coordinates-small = checked-small found;
       ratio-above = zero .0;
-      faces-proper = faces-proper-of (pointsIn i) 0 (givenFaces i) (zero .1);
+      faces-proper = faces-proper-of (pointsIn i) 0 (givenFaces i) (lists .0);
+      entries-good = margin-good (pointsIn i) (i .margin) (lists .1);
     }

@@ -1,5 +1,5 @@
 -- With preserve on, the border of an admitted mesh stays as it is: every border edge is a border edge after every step, between the same two points, at the
--- same places, and is written as one. So every fixed point is in the output.
+-- same places, and is written as one. So every border point is in the output. (A margin point need not be: all its faces may be folded away.)
 -- Assumes nothing.
 use Prim.Native.Nat.{ℕ, zero, suc}
 use native.Mathlib.Numerals.{add-one}
@@ -8,7 +8,6 @@ use mathlib.Core.Path.{_≡_, refl, sym, ap, _∙_}
 use mathlib.Core.Logic.{_≢_}
 use mathlib.Core.List.{List, []}
 use mathlib.Core.Bool.{true}
-use mathlib.Mathlib.Data.Bool.Basic.{and-elim-left, and-elim-right, and-intro}
 use Rattle.lists.specs.Lists.{some}
 use Rattle.placement.specs.declared.pair.Vertex.{Vertex}
 use Rattle.walk.specs.declared.Face.{Face}
@@ -29,7 +28,7 @@ use Rattle.promises.specs.Steps.{stateAt, answerAt, facesAt, budgetOf, g
 use Rattle.promises.specs.Written.{newNumber, writtenPoint, writtenFaces}
 use Rattle.promises.proofs.Admitted.{passed}
 use Rattle.promises.proofs.Ended.{start-faces}
-use Rattle.promises.proofs.Fixed.{thinned-is, fixed-never-folded, fixed-written}
+use Rattle.promises.proofs.Fixed.{thinned-is, border-fixed, fixed-never-folded, fixed-written}
 use Rattle.promises.proofs.Fair.{fold-of-two}
 
 -- ---- with preserve on
@@ -37,18 +36,21 @@ use Rattle.promises.proofs.Fair.{fold-of-two}
 module _ (i : Input) (admitted : verdictOf i ≡ Admitted) (preserved : i .options .preserve ≡ true) where
   -- the ends of a border edge are fixed
   pub end-fixed : (x y : ℕ) → borderEdge (givenFaces i) x y ≡ true → fixedPoint i x ≡ true
-  end-fixed x y e = and-intro preserved (end-border (givenFaces i) x y (pointsIn i) (passed i admitted .faces-proper) e)
+  end-fixed x y e = border-fixed i x preserved (end-border (givenFaces i) x y (pointsIn i) (passed i admitted .faces-proper) e)
 
   module _ (x y : ℕ) (edge : borderEdge (givenFaces i) x y ≡ true) where
-    -- its ends are two points, and fixed
+    -- its ends are two points, either way round, and fixed
     x-y : x ≢ y
     x-y = edge-differ (givenFaces i) x y edge
+
+    turned : borderEdge (givenFaces i) y x ≡ true
+    turned = edge-of (givenFaces i) y x (λ e. x-y (sym e)) (shared-sym (givenFaces i) y x ∙ edge-shared (givenFaces i) x y edge)
 
     x-fixed : fixedPoint i x ≡ true
     x-fixed = end-fixed x y edge
 
     y-fixed : fixedPoint i y ≡ true
-    y-fixed = end-fixed y x (edge-of (givenFaces i) y x (λ e. x-y (sym e)) (shared-sym (givenFaces i) y x ∙ edge-shared (givenFaces i) x y edge))
+    y-fixed = end-fixed y x turned
 
     -- a step leaves it
     step-shares : (n : ℕ) (a : StepAnswer) → answerAt i n ≡ a → shared (after (rulesIn i) (stateAt i n) a .mesh .faces) x y ≡ shared (facesAt i n) x y
@@ -82,25 +84,21 @@ module _ (i : Input) (admitted : verdictOf i ≡ Admitted) (preserved : i .optio
     pub border-edge-stays : (n : ℕ) → borderEdge (facesAt i n) x y ≡ true
     border-edge-stays n = edge-of (facesAt i n) x y x-y (still-shared n)
 
--- ---- so every fixed point is in the output
+    -- so some face that is left holds its first end
+    end-used : some (holds x) (lastMesh i .faces) ≡ true
+    unfolding lastMesh
+    end-used = let one = still-shared (budgetOf i) in shared-holds (lastMesh i .faces) x y (omega arith)
 
-module _ (i : Input) (admitted : verdictOf i ≡ Admitted) (x : ℕ) (is-fixed : fixedPoint i x ≡ true) where
-  -- preserve is on
-  preserved : i .options .preserve ≡ true
-  preserved = and-elim-left (i .options .preserve) (borderPoint (pointsIn i) (givenFaces i) x) is-fixed
+  -- ---- so every border point is in the output
 
-  -- some face that is left holds it
-  pub fixed-stays-used : some (holds x) (lastMesh i .faces) ≡ true
-  unfolding lastMesh
-  fixed-stays-used =
-      let border = and-elim-right (i .options .preserve) (borderPoint (pointsIn i) (givenFaces i) x) is-fixed in
-      let (y, edge) = border-edge (pointsIn i) (givenFaces i) x border in
-      let one = edge-shared (lastMesh i .faces) x y (border-edge-stays i admitted preserved x y edge (budgetOf i)) in
-      shared-holds (lastMesh i .faces) x y (omega arith)
+  module _ (x : ℕ) (border : borderPoint (pointsIn i) (givenFaces i) x ≡ true) where
+    -- some face that is left holds it
+    pub border-stays-used : some (holds x) (lastMesh i .faces) ≡ true
+    border-stays-used = let (y, edge) = border-edge (pointsIn i) (givenFaces i) x border in end-used x y edge
 
-  -- and it is written with its input bits
-  pub fixed-in-output : outcome i .answer .number ≡ 0 → writtenPoint i (newNumber i x) ≡ pointAt (i .points) x
-  fixed-in-output done = fixed-written i admitted x is-fixed done fixed-stays-used
+    -- and it is written with its input bits
+    pub border-in-output : outcome i .answer .number ≡ 0 → writtenPoint i (newNumber i x) ≡ pointAt (i .points) x
+    border-in-output done = fixed-written i admitted x (border-fixed i x preserved border) done border-stays-used
 
 -- ---- and so is every border edge
 
@@ -114,13 +112,13 @@ written-are i admitted done =
 
 module _ (i : Input) (admitted : verdictOf i ≡ Admitted) (preserved : i .options .preserve ≡ true) (done : outcome i .answer .number ≡ 0)
     (x y : ℕ) (edge : borderEdge (givenFaces i) x y ≡ true) where
-  -- a border edge of the input is a border edge of what is written, and its ends have their input bits (`fixed-in-output`)
+  -- a border edge of the input is a border edge of what is written, and its ends have their input bits (`border-in-output`)
   pub border-edge-written : borderEdge (writtenFaces i) (newNumber i x) (newNumber i y) ≡ true
   unfolding lastMesh
   border-edge-written =
       let left = lastMesh i .faces in
-      let x-in = used-held left x (fixed-stays-used i admitted x (x-fixed i admitted preserved x y edge)) in
-      let y-in = used-held left y (fixed-stays-used i admitted y (y-fixed i admitted preserved x y edge)) in
+      let x-in = used-held left x (end-used i admitted preserved x y edge) in
+      let y-in = used-held left y (end-used i admitted preserved y x (turned i admitted preserved x y edge)) in
       rw (written-are i admitted done)
       (edge-of (renumbered left) (newNumber i x) (newNumber i y)
       (place-differ (used [] left) x y x-in y-in (x-y i admitted preserved x y edge))

@@ -45,7 +45,7 @@ module _ (i : Input) (n : ℕ) where
   unfolding startOf
   open-eligible =
       walk-eligible (rulesIn i) (targetOf i) n (startOf i)
-      (started-eligible (rulesIn i) (startMesh (pointsIn i) (facesIn i) (i .points) (i .faces) (i .options .preserve)))
+      (started-eligible (rulesIn i) (startMesh (pointsIn i) (facesIn i) (i .points) (i .faces) (i .options .preserve) (i .margin)))
 
   -- so its cost is finite
   pub costs-finite : every (λ p. finite (pairCost (i .bound) (carried i n (p .keep)) (carried i n (p .remove)))) (stateAt i n .«open») ≡ true

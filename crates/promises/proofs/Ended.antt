@@ -43,7 +43,7 @@ folds-are-steps i p m =
 -- V points
 pub start-points : (i : Input) → length (startOf i .mesh .points) ≡ pointsIn i
 unfolding startOf started startMesh
-start-points i = length-each (startVertex (i .points) (givenFaces i) (pointsIn i) (i .options .preserve)) (pointsIn i)
+start-points i = length-each (startVertex (i .points) (givenFaces i) (pointsIn i) (i .options .preserve) (i .margin)) (pointsIn i)
 
 -- the input's faces
 pub start-faces : (i : Input) → startOf i .mesh .faces ≡ givenFaces i
@@ -59,7 +59,7 @@ module _ (i : Input) (admitted : verdictOf i ≡ Admitted) where
   pub start-sound : Sound (startOf i)
   unfolding startOf startMesh
   start-sound =
-      started-sound (rulesIn i) (startMesh (pointsIn i) (facesIn i) (i .points) (i .faces) (i .options .preserve))
+      started-sound (rulesIn i) (startMesh (pointsIn i) (facesIn i) (i .points) (i .faces) (i .options .preserve) (i .margin))
       (rw length-each (passed i admitted .faces-proper))
 
   -- ---- every state that the walk reaches

@@ -111,6 +111,6 @@ module _ (i : Input) (b : ℕ) (fits : b ≤ 20) (is-power : i .bound ≡ power 
 
 -- with document 01's bound, of any call that is admitted
 pub called-open-finite :
-    (points : List Float) (faces : List ℕ) (options : Options) (b : Lent) → let i = inputOf points faces options b in
+    (points : List Float) (faces margin : List ℕ) (options : Options) (b : Lent) → let i = inputOf points faces margin options b in
     verdictOf i ≡ Admitted → (n : ℕ) (p : Pair) → isOpen (stateAt i n) p → PairFinite coordinateBound (carried i n (p .keep)) (carried i n (p .remove))
-called-open-finite points faces options b admitted n = open-finite (inputOf points faces options b) 20 (omega arith) document-bound admitted n
+called-open-finite points faces margin options b admitted n = open-finite (inputOf points faces margin options b) 20 (omega arith) document-bound admitted n

@@ -1,36 +1,40 @@
--- The number and place of every answer are those that document 01's table gives, exactly: `exactly-when`.
+-- The number and place of every answer are those that the table gives, exactly: `exactly-when`.
 -- Asks of an input only that its bound is 1,048,576, which the input of every call has (`call-exactly-when`).
 use Prim.Native.Nat.{ℕ, _≤_, _<_}
 use native.Mathlib.Omega.{arith}
 use mathlib.Core.Path.{_≡_, refl, sym, ap, _∙_}
 use mathlib.Core.Logic.{_↔_, _≢_, _⊎_, inl, inr, ⊎-elim}
 use mathlib.Core.List.{List, [], _∷_}
-use mathlib.Core.Bool.{true, false, and-false}
+use mathlib.Core.Bool.{Bool, true, false, cond, and-false}
 use borrow.Author.Tests.{ltb-true, ltb-false, lt-ltb, le-ltb, ne-eqb}
 use lib.Dec.{ltb, eqb}
 use lib.ListN.{length}
 use lib.Ieee.{Float, nan, eq}
 use Rattle.lists.specs.Lists.{some, firstOf}
 use Rattle.lists.proofs.TestLaws.{by-test}
-use Rattle.lists.proofs.CondLaws.{cond-same}
+use Rattle.lists.proofs.BelowLaws.{sum-same-below}
 use Rattle.lists.proofs.FirstLaws.{first-of}
 use Rattle.bits.specs.Cut.{zeroFloat}
+use Rattle.placement.specs.Choices.{fixed}
 use Rattle.walk.specs.declared.Pair.{Pair}
 use Rattle.walk.specs.Faces.{faceAt}
 use Rattle.meaning.specs.declared.Options.{Options}
 use Rattle.meaning.specs.declared.Verdict.{Verdict}
 use Rattle.meaning.specs.declared.Verdict.the-variants.{Refused, Copied, Admitted}
 use Rattle.meaning.specs.Input.{Input, pointsIn, facesIn}
-use Rattle.meaning.specs.Answers.{uneven, large, short, empty, badRatio, badLimit, badCoordinate, outside, verdictOf}
-use Rattle.meaning.specs.Outcome.{targetOf, foldsWalked, stuck, bordersHeld, stuckAnswer, outcome, outcomeBy}
+use Rattle.meaning.specs.Answers.{uneven, large, short, empty, badRatio, badLimit, badCoordinate, outside, badEntry, verdictOf}
+use Rattle.meaning.specs.Start.{startKind, fixedCount}
+use Rattle.meaning.specs.Outcome.{targetOf, foldsWalked, stuck, fixedIn, stuckAnswer, outcome, outcomeBy}
 use Rattle.meaning.specs.Call.{Lent, inputOf, coordinateBound}
 use Rattle.meaning.proofs.FaceVerdictLaws.{badFace}
-use Rattle.promises.specs.Steps.{budgetOf, givenFaces}
-use Rattle.promises.specs.Table.{BadFace, Doubled, Outside, WalkEnds, borderPoints, First, None, Past1, Past2, Past3, Past4, Past5, Past6, Past7, PastZero, Past9, Given, row-1, row-2, row-3, row-4, row-5, row-6, row-7, row-zero, row-8, row-9, row-10, row-11, row-0}
+use Rattle.meaning.proofs.MarginVerdictLaws.{someBad}
+use Rattle.promises.specs.Steps.{budgetOf, givenFaces, fixedPoint}
+use Rattle.promises.specs.Table.{BadFace, BadEntry, Doubled, Outside, WalkEnds, fixedPoints, First, None, Past1, Past2, Past3, Past4, Past5, Past6, Past7, PastZero, Past9, Past12, Given, row-1, row-2, row-3, row-4, row-5, row-6, row-7, row-zero, row-8, row-9, row-12, row-10, row-11, row-0}
 use Rattle.promises.proofs.Ended.{walk-has-ended, wherever-ended}
+use Rattle.promises.proofs.Fixed.{kind-fixed}
 use Rattle.promises.proofs.Says.{not-so, first-says, none-says}
 use Rattle.promises.proofs.Words.{says-uneven, says-large, says-short, says-empty, says-ratio, says-limit, says-zero, says-outside}
-use Rattle.promises.proofs.Rows.{verdict-1, verdict-2, verdict-3, verdict-4, verdict-5, verdict-6, verdict-7, verdict-zero, verdict-8, verdict-9, verdict-admitted, each-coordinate, each-face, faces-many, firstFace}
+use Rattle.promises.proofs.Rows.{verdict-1, verdict-2, verdict-3, verdict-4, verdict-5, verdict-6, verdict-7, verdict-zero, verdict-8, verdict-9, verdict-12, verdict-admitted, each-coordinate, each-face, faces-many, firstFace, each-entry, entries, entries-many}
 
 -- a number and a place are the outcome's
 abbrev Answers : Input → ℕ → ℕ → Type 0
@@ -53,9 +57,16 @@ unfolding outcome outcomeBy
 copied i e = (ap (λ (d : Verdict). outcomeBy d i .answer .number) e, ap (λ (d : Verdict). outcomeBy d i .answer .place) e)
 
 -- walked with no fold made: 10 or 11
-stuck-answers : (i : Input) → verdictOf i ≡ Admitted → stuck i ≡ true → Answers i (stuckAnswer (bordersHeld i) .number) (stuckAnswer (bordersHeld i) .place)
+stuck-answers : (i : Input) → verdictOf i ≡ Admitted → stuck i ≡ true → Answers i (stuckAnswer (fixedIn i) .number) (stuckAnswer (fixedIn i) .place)
 unfolding outcome outcomeBy
 stuck-answers i e t = (rw (e, t), rw (e, t))
+
+-- the fixed points that are counted are the table's
+pub fixed-counted : (i : Input) → fixedIn i ≡ fixedPoints i
+unfolding fixedCount
+fixed-counted i =
+    sum-same-below (λ x. cond (fixed (startKind (pointsIn i) (givenFaces i) (i .options .preserve) (i .margin) x)) 1 0) (λ x. cond (fixedPoint i x) 1 0)
+    (pointsIn i) (λ x h. ap (λ (b : Bool). cond b 1 0) (kind-fixed i x))
 
 -- walked: 0
 thinned-answers : (i : Input) → verdictOf i ≡ Admitted → stuck i ≡ false → Answers i 0 0
@@ -102,15 +113,13 @@ module _ (i : Input) (bounded : i .bound ≡ coordinateBound) where
   given-answers (row-zero p z) = copied i (verdict-zero i bounded p z)
   given-answers (row-8 p f o) = refused i (verdict-8 i bounded p f o)
   given-answers (row-9 p f o d) = refused i (verdict-9 i bounded p f o)
-  given-answers (row-10 p none above on least) =
+  given-answers (row-12 p f) = refused i (verdict-12 i bounded p f)
+  given-answers (row-10 p none above least) =
       let admitted = verdict-admitted i bounded p in
-      let held : bordersHeld i ≡ borderPoints i = rw on in
-      let some-held = lt-ltb 0 (borderPoints i) least in
-      rw (held, some-held) at (stuck-answers i admitted (is-stuck i admitted none above))
-  given-answers (row-11 p none above off) =
+      rw (fixed-counted i, lt-ltb 0 (fixedPoints i) least) at (stuck-answers i admitted (is-stuck i admitted none above))
+  given-answers (row-11 p none above free) =
       let admitted = verdict-admitted i bounded p in
-      let held : bordersHeld i ≡ 0 = ⊎-elim (λ (e : i .options .preserve ≡ false). rw e) (λ (e : borderPoints i ≡ 0). rw e (cond-same (i .options .preserve) 0)) off in
-      rw held at (stuck-answers i admitted (is-stuck i admitted none above))
+      rw (fixed-counted i, free) at (stuck-answers i admitted (is-stuck i admitted none above))
   given-answers (row-0 p makes either) =
       let admitted = verdict-admitted i bounded p in
       thinned-answers i admitted (not-stuck i admitted makes either)
@@ -118,7 +127,7 @@ module _ (i : Input) (bounded : i .bound ≡ coordinateBound) where
   -- ---- some row holds of every input
 
   -- of one that the walk is made for
-  walk-row : Past9 i → Some i
+  walk-row : Past12 i → Some i
   walk-row p =
       let makes = ends i (verdict-admitted i bounded p) in
       by-test (ltb (targetOf i) (facesIn i))
@@ -133,11 +142,24 @@ module _ (i : Input) (bounded : i .bound ≡ coordinateBound) where
 
       stuck-row : WalkEnds i [] → targetOf i < facesIn i → Some i
       stuck-row none above =
-          by-test (i .options .preserve)
-          (λ on. by-test (ltb 0 (borderPoints i))
-          (λ least. (10, borderPoints i, row-10 p none above on (ltb-true 0 (borderPoints i) least)))
-          (λ few. (11, 0, row-11 p none above (inr (omega (arith, ltb-false 0 (borderPoints i) few))))))
-          (λ off. (11, 0, row-11 p none above (inl off)))
+          by-test (ltb 0 (fixedPoints i))
+          (λ least. (10, fixedPoints i, row-10 p none above (ltb-true 0 (fixedPoints i) least)))
+          (λ few. (11, 0, row-11 p none above (omega (arith, ltb-false 0 (fixedPoints i) few))))
+
+  -- of one whose margin is looked at
+  margin-row : Past9 i → Some i
+  margin-row p =
+      let bad = badEntry (pointsIn i) (i .margin) in
+      by-test (someBad (pointsIn i) (i .margin))
+      (λ t.
+      let found = first-says bad 0 (entries i) (each-entry i) (first-of bad 0 (entries i) t) in
+      let k = firstOf bad (entries i) in
+      let f : First (BadEntry i) (length (i .margin)) k = rw (entries-many i) at found in
+      (12, k, row-12 p f))
+      (λ none.
+      let all = none-says bad 0 (entries i) (each-entry i) none in
+      let every-entry : None (BadEntry i) (length (i .margin)) = rw (entries-many i) at all in
+      walk-row (p, every-entry))
 
   -- of one whose faces are looked at
   faces-row : PastZero i → Some i
@@ -153,7 +175,7 @@ module _ (i : Input) (bounded : i .bound ≡ coordinateBound) where
       (λ none.
       let all = none-says (badFace (pointsIn i)) (firstFace i bounded) (givenFaces i) (each-face i bounded) none in
       let every-face : None (BadFace i) (facesIn i) = rw (faces-many i bounded) at all in
-      walk-row (p, every-face))
+      margin-row (p, every-face))
     where
       doubled-so : (k : ℕ) → ¬ Outside i k → BadFace i k → Doubled i k
       doubled-so k inside bad = ⊎-elim (λ o. absurd (inside o)) (λ d. d) bad
@@ -215,6 +237,6 @@ module _ (i : Input) (bounded : i .bound ≡ coordinateBound) where
       (sym (said .0) ∙ also .0, sym (said .1) ∙ also .1)
 
 -- the same of a call: its input's bound is 1,048,576
-pub call-exactly-when : (points : List Float) (faces : List ℕ) (options : Options) (before : Lent) (n p : ℕ) →
-    let i = inputOf points faces options before in ((outcome i .answer .number ≡ n) × (outcome i .answer .place ≡ p)) ↔ Given i n p
-call-exactly-when points faces options before = exactly-when (inputOf points faces options before) refl
+pub call-exactly-when : (points : List Float) (faces margin : List ℕ) (options : Options) (before : Lent) (n p : ℕ) →
+    let i = inputOf points faces margin options before in ((outcome i .answer .number ≡ n) × (outcome i .answer .place ≡ p)) ↔ Given i n p
+call-exactly-when points faces margin options before = exactly-when (inputOf points faces margin options before) refl

@@ -132,5 +132,6 @@ module _ (i : Input) (b : ℕ) (fits : b ≤ 126) (is-power : i .bound ≡ power
 
 -- with document 01's bound, of any call
 pub called-finite :
-    (points : List Float) (faces : List ℕ) (options : Options) (b : Lent) → every (small coordinateBound) (outcome (inputOf points faces options b) .points) ≡ true
-called-finite points faces options b = outcome-finite (inputOf points faces options b) 20 (omega arith) document-bound
+    (points : List Float) (faces margin : List ℕ) (options : Options) (b : Lent)
+    → every (small coordinateBound) (outcome (inputOf points faces margin options b) .points) ≡ true
+called-finite points faces margin options b = outcome-finite (inputOf points faces margin options b) 20 (omega arith) document-bound

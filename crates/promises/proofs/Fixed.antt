@@ -1,17 +1,18 @@
--- A fixed point never moves: it is in no fold, carries after every step what it carried at the start, and is written with its input bits.
+-- A fixed point, of the margin or the border, never moves: it is in no fold, carries after every step what it carried at the start, and is written with its
+-- input bits wherever it is still used.
 -- Assumes nothing.
 use Prim.Native.Nat.{ℕ, _<_}
 use native.Mathlib.Omega.{arith}
 use mathlib.Core.Path.{_≡_, refl, ap, _∙_}
 use mathlib.Core.Logic.{_≢_}
 use mathlib.Core.List.{[]}
-use mathlib.Core.Bool.{Bool, true, false, cond}
-use mathlib.Mathlib.Data.Bool.Basic.{and-elim-right}
+use mathlib.Core.Bool.{Bool, true, false, _&&_, _||_, cond}
+use mathlib.Mathlib.Data.Bool.Basic.{and-elim-right, and-intro, or-inl, or-inr}
 use lib.Dec.{ltb}
 use Rattle.lists.specs.Lists.{some}
-use Rattle.lists.proofs.TestLaws.{by-test}
+use Rattle.lists.proofs.TestLaws.{by-test, either-of}
 use Rattle.lists.proofs.BelowLaws.{getD-each}
-use Rattle.placement.specs.declared.Kind.the-variants.{Free, Border}
+use Rattle.placement.specs.declared.Kind.the-variants.{Free, Border, Margin}
 use Rattle.placement.specs.declared.pair.Vertex.{Vertex}
 use Rattle.placement.specs.Choices.{fixed}
 use Rattle.walk.specs.declared.Pair.{Pair}
@@ -27,8 +28,9 @@ use Rattle.meaning.specs.declared.Verdict.the-variants.{Admitted}
 use Rattle.meaning.specs.Input.{Input, pointsIn, pointAt}
 use Rattle.meaning.specs.Answers.{verdictOf}
 use Rattle.meaning.specs.Arithmetic.{rulesOf}
-use Rattle.meaning.specs.Start.{startVertex, startMesh}
-use Rattle.meaning.specs.Outcome.{rulesIn, startOf, targetOf, lastMesh, stuck, bordersHeld, stuckAnswer, thinnedOutcome, Outcome, outcome, outcomeBy}
+use Rattle.meaning.specs.Start.{inMargin, startKind, startVertex, startMesh}
+use Rattle.meaning.specs.Outcome.{rulesIn, startOf, targetOf, lastMesh, stuck, fixedIn, stuckAnswer, thinnedOutcome, Outcome, outcome, outcomeBy}
+use Rattle.meaning.proofs.MarginVerdictLaws.{named-below}
 use Rattle.meaning.proofs.PartsLaws.{parts-at}
 use Rattle.promises.specs.Steps.{stateAt, answerAt, budgetOf, carried, givenFaces, fixedPoint}
 use Rattle.promises.specs.Written.{newNumber, writtenPoint}
@@ -38,44 +40,61 @@ use Rattle.promises.proofs.Eligible.{eligible-fit, open-eligible}
 -- ---- an answer of 0
 
 -- a walk that is stuck is not answered with 0
-stuck-not : (borders : ℕ) → stuckAnswer borders .number ≡ 0 → ⊥
-stuck-not borders e = by-test (ltb 0 borders) (λ t. omega (arith, rw t at e)) (λ t. omega (arith, rw t at e))
+stuck-not : (points : ℕ) → stuckAnswer points .number ≡ 0 → ⊥
+stuck-not points e = by-test (ltb 0 points) (λ t. omega (arith, rw t at e)) (λ t. omega (arith, rw t at e))
 
 -- where the answer is 0, the outcome is the thinned mesh
 pub thinned-is : (i : Input) → verdictOf i ≡ Admitted → outcome i .answer .number ≡ 0 → outcome i ≡ thinnedOutcome i
 unfolding outcome outcomeBy
 thinned-is i admitted done =
     by-test (stuck i)
-    (λ t. absurd (stuck-not (bordersHeld i) (rw (admitted, t) at done)))
+    (λ t. absurd (stuck-not (fixedIn i) (rw (admitted, t) at done)))
     (λ t. rw (admitted, t))
 
 -- ---- the start
 
 -- what the point x carries at the start
 abbrev startOfPoint : Input → ℕ → Vertex
-startOfPoint i x = startVertex (i .points) (givenFaces i) (pointsIn i) (i .options .preserve) x
+startOfPoint i x = startVertex (i .points) (givenFaces i) (pointsIn i) (i .options .preserve) (i .margin) x
 
 -- it is what stands there
 pub start-carried : (i : Input) (x : ℕ) → x < pointsIn i → dataOf (rulesIn i) (startOf i .mesh) x ≡ startOfPoint i x
 unfolding startOf started startMesh
 start-carried i x small = getD-each (startOfPoint i) (pointsIn i) x (rulesIn i .blank) small
 
--- border points are fixed, and free ones are not
-kind-fixed : (b : Bool) → fixed (cond b Border Free) ≡ b
-kind-fixed true = refl
-kind-fixed false = refl
+-- margin and border points are fixed, and free ones are not
+either-fixed : (m b : Bool) → fixed (cond m Margin (cond b Border Free)) ≡ (m || b)
+either-fixed true b = refl
+either-fixed false true = refl
+either-fixed false false = refl
 
--- a fixed point is one whose kind at the start is fixed
+-- the kind that the start gives a point is fixed exactly where the point is
+pub kind-fixed : (i : Input) (x : ℕ) → fixed (startOfPoint i x .kind) ≡ fixedPoint i x
+unfolding startKind
+kind-fixed i x = either-fixed (inMargin (i .margin) x) (i .options .preserve && borderPoint (pointsIn i) (givenFaces i) x)
+
+-- so a fixed point is one whose kind at the start is fixed
 pub fixed-at-start : (i : Input) (x : ℕ) → x < pointsIn i → fixed (carried i 0 x .kind) ≡ fixedPoint i x
 unfolding walk
-fixed-at-start i x small = ap (λ (d : Vertex). fixed (d .kind)) (start-carried i x small) ∙ kind-fixed (fixedPoint i x)
+fixed-at-start i x small = ap (λ (d : Vertex). fixed (d .kind)) (start-carried i x small) ∙ kind-fixed i x
+
+-- every margin point is fixed, with preserve on or off
+pub margin-fixed : (i : Input) (x : ℕ) → inMargin (i .margin) x ≡ true → fixedPoint i x ≡ true
+margin-fixed i x named = or-inl (inMargin (i .margin) x) (i .options .preserve && borderPoint (pointsIn i) (givenFaces i) x) named
+
+-- and every border point, with preserve on
+pub border-fixed : (i : Input) (x : ℕ) → i .options .preserve ≡ true → borderPoint (pointsIn i) (givenFaces i) x ≡ true → fixedPoint i x ≡ true
+border-fixed i x preserved border =
+    or-inr (inMargin (i .margin) x) (i .options .preserve && borderPoint (pointsIn i) (givenFaces i) x) (and-intro preserved border)
 
 module _ (i : Input) (admitted : verdictOf i ≡ Admitted) (x : ℕ) (is-fixed : fixedPoint i x ≡ true) where
   -- it is a point that there is
   pub fixed-below : x < pointsIn i
   fixed-below =
-      border-below (pointsIn i) (givenFaces i) x (passed i admitted .faces-proper)
-      (and-elim-right (i .options .preserve) (borderPoint (pointsIn i) (givenFaces i) x) is-fixed)
+      either-of (inMargin (i .margin) x) (i .options .preserve && borderPoint (pointsIn i) (givenFaces i) x) is-fixed
+      (λ named. named-below (pointsIn i) (i .margin) (passed i admitted .entries-good) x named)
+      (λ held. border-below (pointsIn i) (givenFaces i) x (passed i admitted .faces-proper)
+      (and-elim-right (i .options .preserve) (borderPoint (pointsIn i) (givenFaces i) x) held))
 
   -- no eligible pair has it
   never : (keep remove : Vertex) → rulesIn i .eligible keep remove ≡ true → (fixed (keep .kind) ≡ false) × (fixed (remove .kind) ≡ false)
@@ -89,7 +108,7 @@ module _ (i : Input) (admitted : verdictOf i ≡ Admitted) (x : ℕ) (is-fixed :
   -- ---- every step
 
   -- after any number of steps it carries what it carried at the start: its input point, its quadric, and that it is fixed
-  pub fixed-never-moves : (n : ℕ) → carried i n x ≡ startVertex (i .points) (givenFaces i) (pointsIn i) (i .options .preserve) x
+  pub fixed-never-moves : (n : ℕ) → carried i n x ≡ startVertex (i .points) (givenFaces i) (pointsIn i) (i .options .preserve) (i .margin) x
   unfolding walk
   fixed-never-moves n =
       walk-still (rulesIn i) (λ d. fixed (d .kind)) never (targetOf i) n (startOf i) (open-eligible i 0) x held-first
@@ -103,7 +122,7 @@ module _ (i : Input) (admitted : verdictOf i ≡ Admitted) (x : ℕ) (is-fixed :
   pub fixed-never-folded : (n : ℕ) (p : Pair) → answerAt i n ≡ folded p → (p .keep ≢ x) × (p .remove ≢ x)
   fixed-never-folded n p e =
       held-apart (rulesIn i) (λ d. fixed (d .kind)) never (stateAt i n) (open-eligible i n) x
-      (ap (λ (d : Vertex). fixed (d .kind)) (fixed-never-moves n) ∙ kind-fixed (fixedPoint i x) ∙ is-fixed)
+      (ap (λ (d : Vertex). fixed (d .kind)) (fixed-never-moves n) ∙ kind-fixed i x ∙ is-fixed)
       p (answer-folded (rulesIn i) (targetOf i) (stateAt i n) p e .0)
 
   -- ---- the output
@@ -120,3 +139,16 @@ module _ (i : Input) (admitted : verdictOf i ≡ Admitted) (x : ℕ) (is-fixed :
       ∙ parts-at (rulesIn i) (lastMesh i) seen (placeIn seen x) (place-below seen x here)
       ∙ ap (λ (y : ℕ). dataOf (rulesIn i) (lastMesh i) y .point) (getD-place 0 seen x here)
       ∙ fixed-point-same (budgetOf i)
+
+-- ---- in so many words of the margin, whatever preserve is
+
+module _ (i : Input) (admitted : verdictOf i ≡ Admitted) (x : ℕ) (named : inMargin (i .margin) x ≡ true) where
+  -- a point that the margin names is after every step where the input has it
+  pub margin-point-same : (n : ℕ) → carried i n x .point ≡ pointAt (i .points) x
+  margin-point-same = fixed-point-same i admitted x (margin-fixed i x named)
+
+  -- and is written with its input bits, where some face that is left holds it
+  pub margin-written :
+      outcome i .answer .number ≡ 0 → some (holds x) (lastMesh i .faces) ≡ true
+      → writtenPoint i (newNumber i x) ≡ pointAt (i .points) x
+  margin-written = fixed-written i admitted x (margin-fixed i x named)

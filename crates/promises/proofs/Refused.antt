@@ -1,20 +1,20 @@
--- What a refusal leaves: zeros in the last three, and both outputs as they came; and the work memory is untouched exactly on 1 to 9.
+-- What a refusal leaves: zeros in the last three, and both outputs as they came; and the work memory is untouched exactly on 1 to 9 and 12.
 -- Asks of an input, for the memory, only that its bound is 1,048,576, as `exactly-when` does.
 use Prim.Native.Nat.{ℕ}
 use mathlib.Core.Path.{_≡_, refl, ap, _∙_}
 use mathlib.Core.Logic.{_≢_}
 use mathlib.Core.List.{[]}
-use mathlib.Core.Bool.{true, false, not, _&&_}
-use lib.Dec.{leb, ltb}
+use mathlib.Core.Bool.{Bool, true, false, not, _&&_, _||_}
+use lib.Dec.{leb, ltb, eqb}
 use Rattle.lists.proofs.TestLaws.{by-test}
 use Rattle.meaning.specs.declared.Verdict.{Verdict}
 use Rattle.meaning.specs.declared.Verdict.the-variants.{Refused, Copied, Admitted}
 use Rattle.meaning.specs.Input.{Input}
 use Rattle.meaning.specs.Answers.{verdictOf}
-use Rattle.meaning.specs.Outcome.{stuck, bordersHeld, Outcome, outcome, outcomeBy}
+use Rattle.meaning.specs.Outcome.{stuck, fixedIn, Outcome, outcome, outcomeBy}
 use Rattle.meaning.specs.Call.{coordinateBound}
-use Rattle.promises.specs.Table.{Given, row-1, row-2, row-3, row-4, row-5, row-6, row-7, row-zero, row-8, row-9, row-10, row-11, row-0}
-use Rattle.promises.proofs.Rows.{verdict-1, verdict-2, verdict-3, verdict-4, verdict-5, verdict-6, verdict-7, verdict-zero, verdict-8, verdict-9, verdict-admitted}
+use Rattle.promises.specs.Table.{Given, row-1, row-2, row-3, row-4, row-5, row-6, row-7, row-zero, row-8, row-9, row-12, row-10, row-11, row-0}
+use Rattle.promises.proofs.Rows.{verdict-1, verdict-2, verdict-3, verdict-4, verdict-5, verdict-6, verdict-7, verdict-zero, verdict-8, verdict-9, verdict-12, verdict-admitted}
 use Rattle.promises.proofs.ExactlyWhen.{exactly-when}
 
 -- ---- the counts and the outputs
@@ -34,7 +34,7 @@ nothing-by (Refused n p) i not-zero = record { no-points = refl; no-faces = refl
 nothing-by Copied i not-zero = absurd (not-zero refl)
 nothing-by Admitted i not-zero =
     by-test (stuck i)
-    (λ t. by-test (ltb 0 (bordersHeld i))
+    (λ t. by-test (ltb 0 (fixedIn i))
     (λ b. rw (t, b) (record { no-points = refl; no-faces = refl; no-folds = refl; points-kept = refl; faces-kept = refl }))
     (λ b. rw (t, b) (record { no-points = refl; no-faces = refl; no-folds = refl; points-kept = refl; faces-kept = refl })))
     (λ t. absurd (not-zero (rw t)))
@@ -45,6 +45,10 @@ unfolding outcome
 refusal-nothing i = nothing-by (verdictOf i) i
 
 -- ---- the work memory
+
+-- the numbers of the checks before the walk: 1 to 9 and 12
+abbrev pub early : ℕ → Bool
+early n = (leb 1 n && leb n 9) || eqb n 12
 
 -- whether it was worked in, by the verdict
 worked-by : {d : Verdict} (i : Input) → verdictOf i ≡ d → outcome i .worked ≡ outcomeBy d i .worked
@@ -67,7 +71,7 @@ admitted-worked i e = worked-by i e ∙ by-test (stuck i) (λ t. rw t) (λ t. rw
 
 module _ (i : Input) (bounded : i .bound ≡ coordinateBound) where
   -- so by the row of the table
-  row-worked : {n p : ℕ} → Given i n p → outcome i .worked ≡ not (leb 1 n && leb n 9)
+  row-worked : {n p : ℕ} → Given i n p → outcome i .worked ≡ not (early n)
   row-worked (row-1 u) = refused-untouched i (verdict-1 i bounded u)
   row-worked (row-2 p l) = refused-untouched i (verdict-2 i bounded p l)
   row-worked (row-3 p s) = refused-untouched i (verdict-3 i bounded p s)
@@ -78,10 +82,11 @@ module _ (i : Input) (bounded : i .bound ≡ coordinateBound) where
   row-worked (row-zero p z) = copied-worked i (verdict-zero i bounded p z)
   row-worked (row-8 p f o) = refused-untouched i (verdict-8 i bounded p f o)
   row-worked (row-9 p f o d) = refused-untouched i (verdict-9 i bounded p f o)
-  row-worked (row-10 p none above on least) = admitted-worked i (verdict-admitted i bounded p)
-  row-worked (row-11 p none above off) = admitted-worked i (verdict-admitted i bounded p)
+  row-worked (row-12 p f) = refused-untouched i (verdict-12 i bounded p f)
+  row-worked (row-10 p none above least) = admitted-worked i (verdict-admitted i bounded p)
+  row-worked (row-11 p none above free) = admitted-worked i (verdict-admitted i bounded p)
   row-worked (row-0 p makes either) = admitted-worked i (verdict-admitted i bounded p)
 
-  -- untouched on 1 to 9, and zeroed after 0, 10 and 11
-  pub worked-exactly-when : outcome i .worked ≡ not (leb 1 (outcome i .answer .number) && leb (outcome i .answer .number) 9)
+  -- untouched on the early numbers, and zeroed after 0, 10 and 11
+  pub worked-exactly-when : outcome i .worked ≡ not (early (outcome i .answer .number))
   worked-exactly-when = row-worked (exactly-when i bounded (outcome i .answer .number) (outcome i .answer .place) .0 (refl, refl))

@@ -1,25 +1,41 @@
--- The verdict of an input that a row of document 01's table holds of, and no earlier row: its number and place.
+-- The verdict of an input that a row of the table holds of, and no earlier row: its number and place.
 -- Asks of an input only that its bound is 1,048,576.
 use Prim.Native.Nat.{ℕ, _<_}
 use native.Mathlib.Nat.{zero-add}
 use native.Mathlib.Omega.{arith}
 use mathlib.Core.Path.{_≡_, ap, _∙_}
+use mathlib.Core.List.{List}
 use mathlib.Core.Bool.{Bool, cond}
 use lib.ListN.{length, getD}
 use lib.Ieee.{Float, nan}
-use Rattle.lists.proofs.BelowLaws.{length-each, getD-each}
+use Rattle.lists.specs.Lists.{below}
+use Rattle.lists.proofs.BelowLaws.{length-below, getD-below, length-each, getD-each}
 use Rattle.lists.proofs.FirstLaws.{first-place, first-some}
 use Rattle.walk.specs.declared.Face.{Face}
 use Rattle.walk.specs.Faces.{faceAt}
+use Rattle.meaning.specs.declared.Verdict.{Verdict}
 use Rattle.meaning.specs.declared.Verdict.the-variants.{Refused, Copied, Admitted}
 use Rattle.meaning.specs.Input.{Input, pointsIn, facesIn}
-use Rattle.meaning.specs.Answers.{badCoordinate, outside, faceVerdict, contentsVerdict, verdictOf}
+use Rattle.meaning.specs.Answers.{badCoordinate, outside, badEntry, andThen, faceVerdict, marginVerdict, contentsVerdict, verdictOf}
 use Rattle.meaning.specs.Call.{coordinateBound}
 use Rattle.meaning.proofs.FaceVerdictLaws.{badFace, lowest-decides, none-decides}
+use Rattle.meaning.proofs.MarginVerdictLaws.{entry-decides, margin-admitted}
 use Rattle.promises.specs.Steps.{givenFaces}
-use Rattle.promises.specs.Table.{Uneven, Large, Short, Empty, BadRatio, BadLimit, BadCoordinate, Outside, BadFace, RatioZero, First, Past1, Past2, Past3, Past4, Past5, Past6, Past7, PastZero, Past9}
+use Rattle.promises.specs.Table.{Uneven, Large, Short, Empty, BadRatio, BadLimit, BadCoordinate, Outside, BadFace, BadEntry, RatioZero, First, Past1, Past2, Past3, Past4, Past5, Past6, Past7, PastZero, Past9, Past12}
 use Rattle.promises.proofs.Says.{Says, fails, says-same, first-said, none-said}
-use Rattle.promises.proofs.Words.{says-uneven, says-large, says-short, says-empty, says-ratio, says-limit, says-coordinate, says-zero, says-outside, says-bad-face}
+use Rattle.promises.proofs.Words.{says-uneven, says-large, says-short, says-empty, says-ratio, says-limit, says-coordinate, says-zero, says-outside, says-bad-face, says-bad-entry}
+
+-- the numbers of the margin's entries
+abbrev pub entries : Input → List ℕ
+entries i = below (length (i .margin))
+
+pub entries-many : (i : Input) → length (entries i) ≡ length (i .margin)
+entries-many i = length-below (length (i .margin))
+
+-- the entries, one by one
+pub each-entry : (i : Input) (k : ℕ) → k < length (entries i) → Says (BadEntry i k) (badEntry (pointsIn i) (i .margin) (getD (entries i) k 0))
+each-entry i k h =
+    says-same (says-bad-entry i k) (ap (badEntry (pointsIn i) (i .margin)) (getD-below (length (i .margin)) k (omega (arith, entries-many i))))
 
 module _ (i : Input) (bounded : i .bound ≡ coordinateBound) where
   -- the verdict, by 1 to 6
@@ -63,7 +79,7 @@ module _ (i : Input) (bounded : i .bound ≡ coordinateBound) where
       )
 
   -- or by what stands in the lists
-  contents : Past6 i → verdictOf i ≡ contentsVerdict (i .points) (i .faces) (i .options .ratio) (i .bound)
+  contents : Past6 i → verdictOf i ≡ contentsVerdict (i .points) (i .faces) (i .margin) (i .options .ratio) (i .bound)
   unfolding verdictOf
   contents p =
       rw (
@@ -105,8 +121,8 @@ module _ (i : Input) (bounded : i .bound ≡ coordinateBound) where
   pub each-face : (k : ℕ) → k < length (givenFaces i) → Says (BadFace i k) (badFace (pointsIn i) (getD (givenFaces i) k firstFace))
   each-face k h = says-same (says-bad-face i k) (ap (badFace (pointsIn i)) (face-is k (omega (arith, faces-many))))
 
-  -- past ratio zero the faces decide
-  faces-decide : PastZero i → verdictOf i ≡ faceVerdict (pointsIn i) 0 (givenFaces i)
+  -- past ratio zero the faces decide, and then the margin
+  faces-decide : PastZero i → verdictOf i ≡ andThen (faceVerdict (pointsIn i) 0 (givenFaces i)) (marginVerdict (pointsIn i) (i .margin))
   unfolding contentsVerdict
   faces-decide p =
       contents (p .0 .0) ∙ rw (none-said (badCoordinate (i .bound)) nan (i .points) each-coordinate (p .0 .1), fails (says-zero i) (p .1))
@@ -117,7 +133,7 @@ module _ (i : Input) (bounded : i .bound ≡ coordinateBound) where
       let f' : First (BadFace i) (length (givenFaces i)) k = rw faces-many f in
       let g = first-said (badFace (pointsIn i)) firstFace (givenFaces i) each-face f' in
       faces-decide p
-      ∙ lowest-decides (pointsIn i) 0 firstFace (givenFaces i) k g
+      ∙ ap (λ (d : Verdict). andThen d (marginVerdict (pointsIn i) (i .margin))) (lowest-decides (pointsIn i) 0 firstFace (givenFaces i) k g)
       ∙ rw (face-is k (f .within), zero-add)
 
   pub verdict-8 : {k : ℕ} → PastZero i → First (BadFace i) (facesIn i) k → Outside i k → verdictOf i ≡ Refused 8 k
@@ -126,8 +142,21 @@ module _ (i : Input) (bounded : i .bound ≡ coordinateBound) where
   pub verdict-9 : {k : ℕ} → PastZero i → First (BadFace i) (facesIn i) k → ¬ Outside i k → verdictOf i ≡ Refused 9 k
   verdict-9 {k} p f o = verdict-face p f ∙ ap (λ (b : Bool). Refused (cond b 8 9) k) (fails (says-outside i k) o)
 
-  -- or none, and the walk is made
-  pub verdict-admitted : Past9 i → verdictOf i ≡ Admitted
-  verdict-admitted p =
+  -- past them the margin decides
+  margin-decides : Past9 i → verdictOf i ≡ marginVerdict (pointsIn i) (i .margin)
+  margin-decides p =
+      let none = none-said (badFace (pointsIn i)) firstFace (givenFaces i) each-face (rw faces-many (p .1)) in
       faces-decide (p .0)
-      ∙ none-decides (pointsIn i) 0 (givenFaces i) (none-said (badFace (pointsIn i)) firstFace (givenFaces i) each-face (rw faces-many (p .1)))
+      ∙ ap (λ (d : Verdict). andThen d (marginVerdict (pointsIn i) (i .margin))) (none-decides (pointsIn i) 0 (givenFaces i) none)
+
+  -- 12: the first bad entry decides
+  pub verdict-12 : {k : ℕ} → Past9 i → First (BadEntry i) (length (i .margin)) k → verdictOf i ≡ Refused 12 k
+  verdict-12 {k} p f =
+      let f' : First (BadEntry i) (length (entries i)) k = rw (entries-many i) f in
+      margin-decides p ∙ entry-decides (pointsIn i) (i .margin) (first-said (badEntry (pointsIn i) (i .margin)) 0 (entries i) (each-entry i) f')
+
+  -- or none, and the walk is made
+  pub verdict-admitted : Past12 i → verdictOf i ≡ Admitted
+  verdict-admitted p =
+      margin-decides (p .0)
+      ∙ margin-admitted (pointsIn i) (i .margin) (none-said (badEntry (pointsIn i) (i .margin)) 0 (entries i) (each-entry i) (rw (entries-many i) (p .1)))

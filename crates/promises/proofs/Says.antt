@@ -7,8 +7,8 @@ use mathlib.Core.Logic.{_≢_, _⊎_, inl, inr, ⊎-elim}
 use mathlib.Core.List.{List}
 use mathlib.Core.Bool.{Bool, true, false, not, _&&_, _||_}
 use mathlib.Mathlib.Data.Bool.Basic.{or-inl, or-inr}
-use borrow.Author.Tests.{ltb-true, ltb-false, lt-ltb, le-ltb, eqb-true, eq-eqb, ne-eqb, not-true}
-use lib.Dec.{ltb, eqb}
+use borrow.Author.Tests.{ltb-true, ltb-false, leb-true, lt-ltb, le-ltb, le-leb, eqb-true, eq-eqb, ne-eqb, not-true}
+use lib.Dec.{ltb, leb, eqb}
 use lib.ListN.{length, getD}
 use Rattle.lists.specs.Lists.{some, FirstAt, firstOf}
 use Rattle.lists.proofs.TestLaws.{clash, either-of, false-of, differ}
@@ -43,12 +43,15 @@ says-itself b = record { holds = λ t. t; passes = λ t. t }
 pub says-not : (b : Bool) → Says (b ≡ false) (not b)
 says-not b = record { holds = λ t. not-true b t; passes = λ f. rw f }
 
--- below, and not below
+-- below, not below, and at most
 pub says-below : (m n : ℕ) → Says (m < n) (ltb m n)
 says-below m n = record { holds = λ t. ltb-true m n t; passes = λ h. lt-ltb m n h }
 
 pub says-least : (m n : ℕ) → Says (n ≤ m) (not (ltb m n))
 says-least m n = record { holds = λ t. ltb-false m n (not-true (ltb m n) t); passes = λ h. rw (le-ltb m n h) }
+
+pub says-most : (m n : ℕ) → Says (m ≤ n) (leb m n)
+says-most m n = record { holds = λ t. leb-true m n t; passes = λ h. le-leb m n h }
 
 -- equal, and not equal
 pub says-equal : (m n : ℕ) → Says (m ≡ n) (eqb m n)

@@ -109,7 +109,7 @@ module _ (i : Input) (b : ℕ) (fits : b ≤ 20) (is-power : i .bound ≡ power 
   start-weighed =
       let faces = facesOf (facesIn i) (i .faces) in
       let checked = passed i admitted in
-      let vertex = startVertex (i .points) faces (pointsIn i) (i .options .preserve) in
+      let vertex = startVertex (i .points) faces (pointsIn i) (i .options .preserve) (i .margin) in
       let long = length-each vertex (pointsIn i) in
       record {
         weight = λ x. count (holds x) faces;

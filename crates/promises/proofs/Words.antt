@@ -1,9 +1,12 @@
--- The tests that the verdict is made of say the words of document 01's table.
+-- The tests that the verdict is made of say the words of the table.
 -- Assumes nothing.
-use Prim.Native.Nat.{ℕ, _+_, _*_, _%_}
+use Prim.Native.Nat.{ℕ, zero, suc, _+_, _-_, _*_, _%_, _≤_}
+use native.Mathlib.Omega.{arith}
 use mathlib.Core.Path.{_≡_, refl, sym, ap, _∙_}
+use mathlib.Core.List.{List}
 use mathlib.Core.Bool.{Bool, true, false, not, _&&_, _||_, or-assoc, false≢true}
-use lib.Dec.{ltb, eqb}
+use borrow.Author.Tests.{lt-ltb}
+use lib.Dec.{ltb, leb, eqb}
 use lib.ListN.{length, getD}
 use lib.Ieee.{Float, nan, inf, fin, isNan, lt, le, eq, neg, ofBits}
 use lib.Ieee.Scale.{finite}
@@ -13,10 +16,10 @@ use Rattle.placement.specs.declared.Limit.{Limit}
 use Rattle.placement.specs.declared.Limit.the-variants.{Unlimited, AtMost}
 use Rattle.walk.specs.Faces.{faceAt}
 use Rattle.meaning.specs.Input.{Input, pointsIn, facesIn}
-use Rattle.meaning.specs.Answers.{uneven, large, short, empty, badRatio, badLimit, badCoordinate, outside, doubled}
+use Rattle.meaning.specs.Answers.{uneven, large, short, empty, badRatio, badLimit, badCoordinate, outside, doubled, badEntry}
 use Rattle.meaning.specs.Call.{coordinateBound}
-use Rattle.promises.specs.Table.{Uneven, Large, Short, Empty, BadRatio, BadLimit, BadCoordinate, Outside, Doubled, BadFace, RatioZero}
-use Rattle.promises.proofs.Says.{Says, says-same, says-itself, says-not, says-below, says-least, says-equal, says-differ, says-or, says-not-both}
+use Rattle.promises.specs.Table.{Uneven, Large, Short, Empty, BadRatio, BadLimit, BadCoordinate, Outside, Doubled, BadFace, BadEntry, RatioZero}
+use Rattle.promises.proofs.Says.{Says, says-same, says-itself, says-not, says-below, says-least, says-most, says-equal, says-differ, says-or, says-not-both}
 
 -- ---- 1 to 4
 
@@ -143,3 +146,24 @@ says-doubled i k =
 -- 8 or 9
 pub says-bad-face : (i : Input) (k : ℕ) → Says (BadFace i k) (outside (pointsIn i) (faceAt (i .faces) k) || doubled (faceAt (i .faces) k))
 says-bad-face i k = says-or (says-outside i k) (says-doubled i k)
+
+-- ---- 12
+
+-- an entry is not above the one before it
+says-not-above : (margin : List ℕ) (x k : ℕ) →
+    Says ((j : ℕ) × (suc j ≡ k) × (x ≤ getD margin j 0)) (ltb 0 k && leb x (getD margin (k - 1) 0))
+says-not-above margin x zero = record { holds = λ t. absurd (false≢true t); passes = λ p. let (j, e, h) = p in absurd (omega arith) }
+says-not-above margin x (suc k) =
+    let before : suc k - 1 ≡ k = omega arith in
+    let said = says-most x (getD margin k 0) in
+    record {
+      holds = λ t. (k, refl, said .holds (rw (lt-ltb 0 (suc k) (omega arith), before) at t));
+      passes = λ p.
+          let (j, e, h) = p in
+          let same : j ≡ k = omega arith in
+          rw (lt-ltb 0 (suc k) (omega arith), before) (said .passes (rw same at h));
+    }
+
+-- 12: an entry of the margin is not below V, or not above the entry before it
+pub says-bad-entry : (i : Input) (k : ℕ) → Says (BadEntry i k) (badEntry (pointsIn i) (i .margin) k)
+says-bad-entry i k = let x = getD (i .margin) k 0 in says-or (says-least x (pointsIn i)) (says-not-above (i .margin) x k)

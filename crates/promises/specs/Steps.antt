@@ -1,7 +1,7 @@
 -- The walk of an input, step by step: the state after n steps, what it answers, and what the points carry there.
 use Prim.Native.Nat.{ℕ}
 use mathlib.Core.List.{List}
-use mathlib.Core.Bool.{Bool, _&&_}
+use mathlib.Core.Bool.{Bool, _&&_, _||_}
 use Rattle.geometry.specs.declared.Point.{Point}
 use Rattle.geometry.specs.Points.{normal}
 use Rattle.placement.specs.declared.pair.Vertex.{Vertex}
@@ -10,6 +10,7 @@ use Rattle.walk.specs.declared.Pair.{Pair}
 use Rattle.walk.specs.Faces.{facesOf, borderPoint, dataOf}
 use Rattle.walk.specs.Walk.{walk, foldList, State, StepAnswer, answer, budget, plainMachine}
 use Rattle.meaning.specs.Input.{Input, pointsIn, facesIn}
+use Rattle.meaning.specs.Start.{inMargin}
 use Rattle.meaning.specs.Outcome.{rulesIn, startOf, targetOf}
 
 -- the state after n steps
@@ -44,6 +45,6 @@ normalAt i n f = normal (carried i n (f .a) .point) (carried i n (f .b) .point) 
 abbrev pub givenFaces : Input → List Face
 givenFaces i = facesOf (facesIn i) (i .faces)
 
--- a fixed point: a border point, where preserve is on
+-- a fixed point: a margin point, with preserve on or off, or a border point, where preserve is on
 abbrev pub fixedPoint : Input → ℕ → Bool
-fixedPoint i x = i .options .preserve && borderPoint (pointsIn i) (givenFaces i) x
+fixedPoint i x = inMargin (i .margin) x || (i .options .preserve && borderPoint (pointsIn i) (givenFaces i) x)

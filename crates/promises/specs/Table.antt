@@ -1,6 +1,7 @@
--- Document 01's table of answers, row by row and in its words. `Given i n p` says that the table gives the input i the number n with the place p.
+-- Document 01's table of answers with document 02's changes, row by row and in its words. `Given i n p` says that the table gives the input i the number n
+-- with the place p.
 -- It names neither `verdictOf` nor `outcome`, which the code is held to; proofs/ExactlyWhen.antt shows that they agree with it.
-use Prim.Native.Nat.{ℕ, _+_, _*_, _%_, _≤_, _<_}
+use Prim.Native.Nat.{ℕ, suc, _+_, _*_, _%_, _≤_, _<_}
 use mathlib.Core.Path.{_≡_}
 use mathlib.Core.Logic.{_≢_, _⊎_}
 use mathlib.Core.List.{List, []}
@@ -11,12 +12,13 @@ use lib.Ieee.Scale.{finite}
 use Rattle.bits.specs.Cut.{zeroFloat, oneFloat}
 use Rattle.placement.specs.declared.Limit.the-variants.{AtMost}
 use Rattle.walk.specs.declared.Pair.{Pair}
-use Rattle.walk.specs.Faces.{faceAt, borderCount}
+use Rattle.lists.specs.Lists.{count, below}
+use Rattle.walk.specs.Faces.{faceAt}
 use Rattle.walk.specs.Walk.{ended}
 use Rattle.meaning.specs.Input.{Input, pointsIn, facesIn}
 use Rattle.meaning.specs.Outcome.{targetOf}
 use Rattle.meaning.specs.Call.{coordinateBound}
-use Rattle.promises.specs.Steps.{answerAt, foldsTo, givenFaces}
+use Rattle.promises.specs.Steps.{answerAt, foldsTo, fixedPoint}
 
 -- ---- "Given exactly when"
 
@@ -69,6 +71,10 @@ Doubled i k = let f = faceAt (i .faces) k in (f .a ≡ f .b) ⊎ (f .b ≡ f .c)
 abbrev pub BadFace : Input → ℕ → Type 0
 BadFace i k = Outside i k ⊎ Doubled i k
 
+-- 12, of entry k of the margin: it is not below V, or not above the entry before it
+abbrev pub BadEntry : Input → ℕ → Type 0
+BadEntry i k = let x = getD (i .margin) k 0 in (pointsIn i ≤ x) ⊎ ((j : ℕ) × (suc j ≡ k) × (x ≤ getD (i .margin) j 0))
+
 -- the ratio is 0.0 or -0.0
 abbrev pub RatioZero : Input → Type 0
 RatioZero i = eq (i .options .ratio) zeroFloat ≡ true
@@ -77,9 +83,9 @@ RatioZero i = eq (i .options .ratio) zeroFloat ≡ true
 abbrev pub WalkEnds : Input → List Pair → Type 0
 WalkEnds i folds = (n : ℕ) × (answerAt i n ≡ ended) × (foldsTo i n ≡ folds)
 
--- the number of border points
-abbrev pub borderPoints : Input → ℕ
-borderPoints i = borderCount (pointsIn i) (givenFaces i)
+-- the number of fixed points, used by a face or not
+abbrev pub fixedPoints : Input → ℕ
+fixedPoints i = count (fixedPoint i) (below (pointsIn i))
 
 -- ---- "in the order they are checked"
 
@@ -121,6 +127,9 @@ PastZero i = Past7 i × (¬ RatioZero i)
 abbrev pub Past9 : Input → Type 0
 Past9 i = PastZero i × None (BadFace i) (facesIn i)
 
+abbrev pub Past12 : Input → Type 0
+Past12 i = Past9 i × None (BadEntry i) (length (i .margin))
+
 -- ---- the table: the number, and the place
 
 pub data Given (i : Input) : ℕ → ℕ → Type 0 where
@@ -137,9 +146,11 @@ pub data Given (i : Input) : ℕ → ℕ → Type 0 where
   -- the lowest bad face counts; within it 8 comes first
   row-8 : {k : ℕ} → PastZero i → First (BadFace i) (facesIn i) k → Outside i k → Given i 8 k
   row-9 : {k : ℕ} → PastZero i → First (BadFace i) (facesIn i) k → ¬ Outside i k → Doubled i k → Given i 9 k
-  -- the walk ended with no fold made, F above target, preserve on, at least one border point
-  row-10 : Past9 i → WalkEnds i [] → targetOf i < facesIn i → i .options .preserve ≡ true → 1 ≤ borderPoints i → Given i 10 (borderPoints i)
-  -- the walk ended with no fold made, F above target, and preserve off or no border point
-  row-11 : Past9 i → WalkEnds i [] → targetOf i < facesIn i → (i .options .preserve ≡ false) ⊎ (borderPoints i ≡ 0) → Given i 11 0
+  -- the first bad entry counts
+  row-12 : {k : ℕ} → Past9 i → First (BadEntry i) (length (i .margin)) k → Given i 12 k
+  -- the walk ended with no fold made, F above target, at least one fixed point; the place is their number
+  row-10 : Past12 i → WalkEnds i [] → targetOf i < facesIn i → 1 ≤ fixedPoints i → Given i 10 (fixedPoints i)
+  -- the walk ended with no fold made, F above target, and no fixed point
+  row-11 : Past12 i → WalkEnds i [] → targetOf i < facesIn i → fixedPoints i ≡ 0 → Given i 11 0
   -- otherwise
-  row-0 : {folds : List Pair} → Past9 i → WalkEnds i folds → (folds ≢ []) ⊎ (facesIn i ≤ targetOf i) → Given i 0 0
+  row-0 : {folds : List Pair} → Past12 i → WalkEnds i folds → (folds ≢ []) ⊎ (facesIn i ≤ targetOf i) → Given i 0 0

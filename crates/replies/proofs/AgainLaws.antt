@@ -4,7 +4,7 @@ use Prim.Native.Nat.{ℕ, _*_, _/_, _<_}
 use native.Mathlib.Nat.{le-of-eq}
 use native.Mathlib.Omega.{arith}
 use mathlib.Core.Path.{_≡_, refl, sym, ap, _∙_}
-use mathlib.Core.List.{List}
+use mathlib.Core.List.{List, []}
 use mathlib.Core.Bool.{true}
 use borrow.Author.Tests.{not-true}
 use lib.ListN.{length, replicate, length-replicate}
@@ -24,7 +24,7 @@ use Rattle.scanfile.specs.declared.Head.{Head}
 use Rattle.scanfile.specs.declared.Scan.the-variants.{Good}
 use Rattle.scanfile.specs.Layout.{pointsAt}
 use Rattle.scanfile.specs.Scans.{scanOf}
-use Rattle.scanfile.specs.Contents.{pointsOf, faceNumbersOf}
+use Rattle.scanfile.specs.Contents.{pointsOf, faceNumbersOf, marginOf}
 use Rattle.scanfile.proofs.GoodLaws.{good-file}
 use Rattle.scanwriter.specs.Written.{scanBytes}
 use Rattle.scanwriter.specs.Contracts.{ScanFits}
@@ -39,16 +39,17 @@ use Rattle.replies.proofs.FitLaws.{Fit, each-single, read-single, outco
 
 -- what the library is handed for a good file with the head h, and what comes out
 abbrev pub scanCall : List ℕ → Head → Input
-scanCall bytes h = callOf h (pointsOf bytes (h .points)) (faceNumbersOf bytes (h .points) (h .faces))
+scanCall bytes h =
+    callOf h (pointsOf bytes (h .points)) (faceNumbersOf bytes (h .points) (h .faces)) (marginOf bytes (h .points) (h .faces) (h .margin))
 
 abbrev pub scanOutcome : List ℕ → Head → Outcome
 scanOutcome bytes h = outcome (scanCall bytes h)
 
 -- ---- a mesh as the program writes it is copied
 
--- what the library is handed for a mesh that was written
+-- what the library is handed for a mesh that was written: no margin
 abbrev writtenCall : ℕ → List Float → List ℕ → Input
-writtenCall unit points faces = callOf (writtenHead unit (length points / 3) (length faces / 3)) points faces
+writtenCall unit points faces = callOf (writtenHead unit (length points / 3) (length faces / 3)) points faces []
 
 -- a mesh of the program's size that is there, with no bad coordinate
 record Whole (unit : ℕ) (points : List Float) (faces : List ℕ) : Type 0 where
@@ -125,7 +126,7 @@ module _ (bytes : List ℕ) (h : Head) (good : scanOf bytes ≡ Good h) where
 pub written-again : (wanted : Wanted) (bytes : List ℕ) (h : Head) → scanOf bytes ≡ Good h → 0 < scanOutcome bytes h .answer .faces →
     replyOf wanted (scanBytes (h .unit) (scanOutcome bytes h .points) (scanOutcome bytes h .faces))
     ≡ mesh (meshBytes wanted (h .unit) 0 (scanOutcome bytes h .points) (scanOutcome bytes h .faces))
-unfolding replyOf replyBy
+unfolding replyOf replyBy numbersFrom
 written-again wanted bytes h good some =
     let o = scanOutcome bytes h in
     let there = whole bytes h good some in

@@ -16,7 +16,7 @@ use Rattle.meaning.specs.declared.Verdict.the-variants.{Refused, Copied, Admitt
 use Rattle.meaning.specs.Input.{Input}
 use Rattle.meaning.specs.Answers.{verdictOf}
 use Rattle.checks.proofs.VerdictLaws as verdicts
-use Rattle.meaning.specs.Outcome.{Outcome, rulesIn, lastMesh, partsIn, stuck, bordersHeld, refusal, stuckAnswer, thinnedOutcome, outcomeBy, outcome}
+use Rattle.meaning.specs.Outcome.{Outcome, rulesIn, lastMesh, partsIn, stuck, fixedIn, refusal, stuckAnswer, thinnedOutcome, outcomeBy, outcome}
 
 pub record Counted (o : Outcome) : Type 0 where
   pub points : length (o .points) ≡ 3 * o .answer .points
@@ -39,10 +39,10 @@ thinned-counted i =
 
 -- ---- a walk that is stuck
 
-stuck-counted : (borders : ℕ) → Counted (record { answer = stuckAnswer borders; points = []; faces = []; worked = true })
-stuck-counted borders = by (ltb 0 borders)
+stuck-counted : (fixed : ℕ) → Counted (record { answer = stuckAnswer fixed; points = []; faces = []; worked = true })
+stuck-counted fixed = by (ltb 0 fixed)
   where
-    by : (held : Bool) → Counted (record { answer = cond held (refusal 10 borders) (refusal 11 0); points = []; faces = []; worked = true })
+    by : (held : Bool) → Counted (record { answer = cond held (refusal 10 fixed) (refusal 11 0); points = []; faces = []; worked = true })
     by true = record { points = refl; faces = refl }
     by false = record { points = refl; faces = refl }
 
@@ -56,8 +56,8 @@ by-verdict Copied i e =
     record { points = sized .points-by-three; faces = sized .faces-by-three }
 by-verdict Admitted i e = by (stuck i)
   where
-    by : (held : Bool) → Counted (cond held (record { answer = stuckAnswer (bordersHeld i); points = []; faces = []; worked = true }) (thinnedOutcome i))
-    by true = stuck-counted (bordersHeld i)
+    by : (held : Bool) → Counted (cond held (record { answer = stuckAnswer (fixedIn i); points = []; faces = []; worked = true }) (thinnedOutcome i))
+    by true = stuck-counted (fixedIn i)
     by false = thinned-counted i
 
 pub counted : (i : Input) → Counted (outcome i)

@@ -14,7 +14,7 @@ use Rattle.scanfile.proofs.PrefixLaws.{prefix-enough}
 use Rattle.replies.specs.declared.Wanted.{Wanted}
 use Rattle.replies.specs.Replies.{replyBy, replyOf}
 
-pub reply-prefix : (wanted : Wanted) (n : ℕ) → 4639 ≤ n → (bytes : List ℕ) → replyOf wanted (take n bytes) ≡ replyOf wanted bytes
+pub reply-prefix : (wanted : Wanted) (n : ℕ) → 5157 ≤ n → (bytes : List ℕ) → replyOf wanted (take n bytes) ≡ replyOf wanted bytes
 unfolding replyOf replyBy
 reply-prefix wanted n most bytes = ap (replyBy wanted (take n bytes)) (prefix-enough n most bytes) ∙ by-scan (scanOf bytes) refl
   where

@@ -23,8 +23,8 @@ use Rattle.listing.proofs.TextLaws.{refusal-room, enough-room}
 use Rattle.records.specs.Words.{numbersFrom}
 use Rattle.records.proofs.WordLaws.{numbers-count}
 use Rattle.scanfile.specs.declared.Head.{Head}
-use Rattle.scanfile.specs.Layout.{pointsAt, facesAt}
-use Rattle.scanfile.specs.Contents.{pointsOf, faceNumbersOf}
+use Rattle.scanfile.specs.Layout.{pointsAt, facesAt, marginAt}
+use Rattle.scanfile.specs.Contents.{pointsOf, faceNumbersOf, marginOf}
 use Rattle.scanwriter.specs.declared.Writing.{Writing}
 use Rattle.scanwriter.specs.declared.Writing.the-variants as writing
 use Rattle.scanwriter.specs.Written.{scanBytes, scanRoom, ScanWritten}
@@ -164,10 +164,10 @@ module _ {A : Type 0} (new old : List A) (n : ℕ) (long : length new ≡ n) whe
 -- ---- the library's call
 
 -- with the program's memory the input is the one that the reply names
-pub same-call : (head : Head) (points : List Float) (faces : List ℕ) (memory : Lent) → 384 ≡ length (memory .points) → 768 ≡ length (memory .faces) →
+pub same-call : (head : Head) (points : List Float) (faces margin : List ℕ) (memory : Lent) → 384 ≡ length (memory .points) → 768 ≡ length (memory .faces) →
     10240 ≡ length (memory .u32s) → 3584 ≡ length (memory .f32s) → 3584 ≡ length (memory .f64s) →
-    inputOf points faces (headOptions head) memory ≡ callOf head points faces
-same-call head points faces memory points-long faces-long u32s-long f32s-long f64s-long =
+    inputOf points faces margin (headOptions head) memory ≡ callOf head points faces margin
+same-call head points faces margin memory points-long faces-long u32s-long f32s-long f64s-long =
     rw (sym points-long, sym faces-long, sym u32s-long, sym f32s-long, sym f64s-long) refl
 
 module _ (o : Outcome) (whole : Counted o) {r : Answer} (points : List Float) {points' : List Float} (faces : List ℕ) {faces' : List ℕ} (answered : r ≡ o .answer)
@@ -220,3 +220,6 @@ points-length bytes v = length-map (numbersFrom bytes pointsAt (3 * v)) (ofBits 
 
 pub faces-length : (bytes : List ℕ) (v f : ℕ) → length (faceNumbersOf bytes v f) ≡ 3 * f
 faces-length bytes v f = numbers-count bytes (facesAt v) (3 * f)
+
+pub margin-length : (bytes : List ℕ) (v f m : ℕ) → length (marginOf bytes v f m) ≡ m
+margin-length bytes v f m = numbers-count bytes (marginAt v f) m

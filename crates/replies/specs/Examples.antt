@@ -1,8 +1,9 @@
--- Document 01's example and its refusal, from the bytes of the file to the bytes of the listing, and to those of the thinned file. The proof computes
--- them from the definitions.
+-- Document 01's example, its refusal and one by a margin, from the bytes of the file to the bytes of the listing, and to those of the thinned file. The
+-- proof computes them from the definitions.
 use Prim.Native.Nat.{ℕ}
 use mathlib.Core.Path.{_≡_, refl}
 use mathlib.Core.List.{List, [], _∷_, flatMap}
+use mathlib.Core.Option.{Option, none, some as present}
 use lib.Ieee as ieee
 use lib.Ieee.{span, climb, size, odd, units, round, neg, add, sub, mul, div, lt, eq, le, ofInt, toUnsigned, isNan, ofFields, ofBits, toBits}
 use Rattle.bits.specs.Cut.{cut, target}
@@ -18,15 +19,15 @@ use Rattle.placement.specs.Pairs.{pairQuadric, pairLength, pairPlace, pairCost,
 use Rattle.placement.specs.Places.{solved, stands, tested, cheaper, fallback, placeOf}
 use Rattle.lists.specs.Lists as lists
 use Rattle.lists.specs.Lists.{those, every, some, without, below, firstOf}
-use Rattle.walk.specs.Faces.{borderPoint, borderCount}
+use Rattle.walk.specs.Faces.{borderPoint}
 use Rattle.walk.specs.Fold.{foldedFaces, foldedMesh}
 use Rattle.walk.specs.FoldTest.{fairFace, allowed}
 use Rattle.walk.specs.Pairs.{pairsBelow, order, least, opened}
 use Rattle.walk.specs.Walk.{walk, foldList, foldOf, budget, started, tried, chosen, answer, after}
 use Rattle.walk.specs.Output.{used, placeIn, renumbered, numbersOf}
 use Rattle.meaning.specs.Arithmetic.{fairPoints, mergedVertex, rulesOf}
-use Rattle.meaning.specs.Start.{gathered, startMesh}
-use Rattle.meaning.specs.Answers.{faceVerdict, contentsVerdict, verdictOf}
+use Rattle.meaning.specs.Start.{gathered, startKind, fixedCount, startMesh}
+use Rattle.meaning.specs.Answers.{faceVerdict, marginVerdict, contentsVerdict, verdictOf}
 use Rattle.meaning.specs.Outcome.{startOf, targetOf, lastMesh, foldsWalked, partsIn, outcomeBy, outcome}
 use Rattle.records.specs.Words.{fourBytes, numbersFrom, asFours}
 use Rattle.records.specs.Records.{recordsBytes}
@@ -40,9 +41,9 @@ use Rattle.listing.specs.Examples.{squareListing, refusalListing}
 use Rattle.replies.specs.declared.Wanted.the-variants.{Listing, File}
 use Rattle.replies.specs.Replies.{mesh, refusal, replyBy, replyOf, toldBytes}
 
--- the example square as a file: (0,0,0) (2,0,0) (2,2,0) (0,2,0) (1,1,0), millimetres, ratio 0.5, with flags
-abbrev squareFile : ℕ → List ℕ
-squareFile flags =
+-- the example square as a file: (0,0,0) (2,0,0) (2,2,0) (0,2,0) (1,1,0), millimetres, ratio 0.5, with flags and a margin
+abbrev squareFile : ℕ → Option (List ℕ) → List ℕ
+squareFile flags margin =
     fileOf
     (record {
       unit = 1;
@@ -51,6 +52,7 @@ squareFile flags =
       limit = 0;
       points = 0 ∷ 0 ∷ 0 ∷ 0x4000_0000 ∷ 0 ∷ 0 ∷ 0x4000_0000 ∷ 0x4000_0000 ∷ 0 ∷ 0 ∷ 0x4000_0000 ∷ 0 ∷ 0x3f80_0000 ∷ 0x3f80_0000 ∷ 0 ∷ [];
       faces = 0 ∷ 1 ∷ 4 ∷ 1 ∷ 2 ∷ 4 ∷ 2 ∷ 3 ∷ 4 ∷ 3 ∷ 0 ∷ 4 ∷ [];
+      margin = margin;
     })
 
 -- the thinned square as a file: four points, two faces, and zeros for flags, ratio and limit
@@ -64,12 +66,19 @@ thinnedFile =
       limit = 0;
       points = 0x4000_0000 ∷ 0 ∷ 0 ∷ 0x4000_0000 ∷ 0x4000_0000 ∷ 0 ∷ 0 ∷ 0 ∷ 0 ∷ 0 ∷ 0x4000_0000 ∷ 0 ∷ [];
       faces = 0 ∷ 1 ∷ 2 ∷ 1 ∷ 3 ∷ 2 ∷ [];
+      margin = none;
     })
 
--- its listing, its refusal with preserve on, and its file
-pub examples-hold : (replyOf Listing (squareFile 0) ∷ replyOf Listing (squareFile 1) ∷ replyOf File (squareFile 0) ∷ []) ≡
-    (mesh squareListing ∷ refusal 10 4 ∷ mesh thinnedFile ∷ [])
-unfolding outcome outcomeBy partsIn foldsWalked lastMesh targetOf startOf startMesh gathered rulesOf mergedVertex fairPoints numbersOf renumbered placeIn used foldList walk after answer chosen tried opened started least order budget foldOf pairsBelow foldedMesh allowed fairFace foldedFaces borderCount borderPoint without those every some below lists.sum placeOf fallback cheaper tested stands solved eligible pairCost pairPlace pairLength pairQuadric inverse errorAt planeOf unitNormal allFinite normal norm root rootBits finiteRoot bitsRoot.largest halfway fourfold steps floatKey orderKey narrowed cut target flatMap verdictOf contentsVerdict faceVerdict firstOf span climb size odd units round neg ieee.sum add sub mul div lt eq le ofInt toUnsigned isNan ofFields ofBits toBits replyOf replyBy asFours recordsBytes scanOf recordFault optionsFault fourBytes numbersFrom meshText headText refusalText linesTo decimal digitCount digits
+-- its listing, its refusal with preserve on, and its file; with the middle held, and with a margin that descends
+pub examples-hold :
+    (replyOf Listing (squareFile 0 none)
+    ∷ replyOf Listing (squareFile 1 none)
+    ∷ replyOf File (squareFile 0 none)
+    ∷ replyOf File (squareFile 0 (present (4 ∷ [])))
+    ∷ replyOf Listing (squareFile 0 (present (1 ∷ 3 ∷ 2 ∷ [])))
+    ∷ []) ≡
+    (mesh squareListing ∷ refusal 10 4 ∷ mesh thinnedFile ∷ refusal 10 1 ∷ refusal 12 2 ∷ [])
+unfolding outcome outcomeBy partsIn foldsWalked lastMesh targetOf startOf startMesh fixedCount startKind gathered rulesOf mergedVertex fairPoints numbersOf renumbered placeIn used foldList walk after answer chosen tried opened started least order budget foldOf pairsBelow foldedMesh allowed fairFace foldedFaces borderPoint without those every some below lists.sum placeOf fallback cheaper tested stands solved eligible pairCost pairPlace pairLength pairQuadric inverse errorAt planeOf unitNormal allFinite normal norm root rootBits finiteRoot bitsRoot.largest halfway fourfold steps floatKey orderKey narrowed cut target flatMap verdictOf contentsVerdict faceVerdict marginVerdict firstOf span climb size odd units round neg ieee.sum add sub mul div lt eq le ofInt toUnsigned isNan ofFields ofBits toBits replyOf replyBy asFours recordsBytes scanOf recordFault optionsFault fourBytes numbersFrom meshText headText refusalText linesTo decimal digitCount digits
 examples-hold = refl
 
 -- the refusal's line

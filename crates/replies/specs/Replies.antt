@@ -14,7 +14,7 @@ use Rattle.scanfile.specs.declared.Head.{Head}
 use Rattle.scanfile.specs.declared.Scan.{Scan}
 use Rattle.scanfile.specs.declared.Scan.the-variants.{Good, Bad}
 use Rattle.scanfile.specs.Scans.{scanOf}
-use Rattle.scanfile.specs.Contents.{pointsOf, faceNumbersOf}
+use Rattle.scanfile.specs.Contents.{pointsOf, faceNumbersOf, marginOf}
 use Rattle.scanwriter.specs.Written.{scanBytes}
 use Rattle.text.specs.Words.{ascii}
 use Rattle.listing.specs.Texts.{refusalText, meshText}
@@ -51,12 +51,13 @@ outcomeTold wanted unit o = answerTold wanted unit (o .answer) (o .points) (o .f
 abbrev pub headOptions : Head → Options
 headOptions head = record { ratio = head .ratio; preserve = head .preserve; limit = head .limit }
 
--- what the library is handed: the mesh, the options, and memory for 128 points and 256 faces
-abbrev pub callOf : Head → List Float → List ℕ → Input
-callOf head points faces =
+-- what the library is handed: the mesh, the margin, the options, and memory for 128 points and 256 faces
+abbrev pub callOf : Head → List Float → (faces margin : List ℕ) → Input
+callOf head points faces margin =
     record {
       points = points;
       faces = faces;
+      margin = margin;
       rooms = record { points = 384; faces = 768; u32s = 10240; f32s = 3584; f64s = 3584 };
       options = headOptions head;
       bound = coordinateBound;
@@ -67,7 +68,8 @@ unfoldable pub replyBy : Wanted → List ℕ → Scan → Told
 replyBy wanted bytes (Bad number place) = refusal number place
 replyBy wanted bytes (Good head) =
     outcomeTold wanted (head .unit)
-    (outcome (callOf head (pointsOf bytes (head .points)) (faceNumbersOf bytes (head .points) (head .faces))))
+    (outcome
+    (callOf head (pointsOf bytes (head .points)) (faceNumbersOf bytes (head .points) (head .faces)) (marginOf bytes (head .points) (head .faces) (head .margin))))
 
 -- the reply to any bytes
 unfoldable pub replyOf : Wanted → List ℕ → Told

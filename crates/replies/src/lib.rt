@@ -1,5 +1,5 @@
 // From a file's bytes to the reply: what is written is determined by what was read, as replyOf of specs/Replies.antt says.
-// A file has at most 128 points and 256 faces, and no buffer is larger than 64 KiB.
+// A file has at most 128 points, 256 faces and 128 margin points, and no buffer is larger than 64 KiB.
 ghost use mathlib.Core.Path.{_≡_};
 ghost use mathlib.Core.Logic.{_⊎_};
 ghost use Prim.Native.Nat.{_+_, _*_, _≤_};
@@ -37,10 +37,10 @@ pub enum Reply {
 // ---- memory, of which only the lengths matter
 
 // The bytes that are read: one over the longest good file, since what comes after can't change the answer.
-pub fn input_cells() -> [u8; 4639]
-    ensures { λ r. ⌜ 4639 ≡ length r ⌝ }
+pub fn input_cells() -> [u8; 5157]
+    ensures { λ r. ⌜ 5157 ≡ length r ⌝ }
 {
-    [0; 4639]
+    [0; 5157]
 }
 
 // The bytes that are written: the longest listing takes fewer.
@@ -62,6 +62,13 @@ fn face_cells() -> [u32; 768]
     ensures { λ r. ⌜ 768 ≡ length r ⌝ }
 {
     [0; 768]
+}
+
+// 128 margin points, one u32 each.
+fn margin_cells() -> [u32; 128]
+    ensures { λ r. ⌜ 128 ≡ length r ⌝ }
+{
+    [0; 128]
 }
 
 // Work memory, 16V+32F u32.
@@ -172,9 +179,16 @@ fn write_answer(
 }
 
 // Thins a mesh and writes the reply of the outcome.
-fn write_thinned(out: &mut [u8], wanted: Wanted, head: Head, points: &[f32], faces: &[u32]) -> Reply
+fn write_thinned(
+    out: &mut [u8],
+    wanted: Wanted,
+    head: Head,
+    points: &[f32],
+    faces: &[u32],
+    margin: &[u32],
+) -> Reply
     requires { ⌜ 12288 ≤ length (now out) ⌝ ∗ ⌜ (head .unit ≡ 1) ⊎ (head .unit ≡ 2) ⌝ }
-    ensures { λ r. ⌜ Replied wanted (outcomeTold wanted (head .unit) (outcome (callOf head (now (points .entry)) (now (faces .entry))))) (now (out .entry)) (now (out .exit)) r ⌝ }
+    ensures { λ r. ⌜ Replied wanted (outcomeTold wanted (head .unit) (outcome (callOf head (now (points .entry)) (now (faces .entry)) (now (margin .entry))))) (now (out .entry)) (now (out .exit)) r ⌝ }
 {
     let mut out_points = point_cells();
     let mut out_faces = face_cells();
@@ -192,6 +206,7 @@ fn write_thinned(out: &mut [u8], wanted: Wanted, head: Head, points: &[f32], fac
         Engine::Heap,
         points,
         faces,
+        margin,
         options,
         &mut out_points,
         &mut out_faces,
@@ -210,10 +225,13 @@ fn write_good(out: &mut [u8], wanted: Wanted, bytes: &[u8], head: Head) -> Reply
 {
     let mut points = point_cells();
     let mut faces = face_cells();
+    let mut margin = margin_cells();
     let v = head.points;
     let f = head.faces;
+    let m = head.margin;
     scanfile::read_points(bytes, v, &mut points);
     scanfile::read_faces(bytes, v, f, &mut faces);
+    scanfile::read_margin(bytes, v, f, m, &mut margin);
     let points_end = 3 * v;
     let faces_end = 3 * f;
     write_thinned(
@@ -222,6 +240,7 @@ fn write_good(out: &mut [u8], wanted: Wanted, bytes: &[u8], head: Head) -> Reply
         head,
         &points[..points_end],
         &faces[..faces_end],
+        &margin[..m],
     )
 }
 

@@ -5,3 +5,4 @@ pub mod Rings
 pub mod Listing
 pub mod Wanting
 pub mod Taking
+pub mod Kinds

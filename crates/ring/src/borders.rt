@@ -1,5 +1,6 @@
 // Border points: a point is one if just one face holds it and some other point.
 ghost use mathlib.Core.Path.{_≡_};
+ghost use mathlib.Core.List.{[]};
 ghost use mathlib.Core.Bool.{true, _&&_, cond};
 ghost use Prim.Native.Nat.{_<_};
 ghost use Rattle.lists.specs.Lists.{some, stretch};
@@ -7,7 +8,8 @@ ghost use Rattle.walk.specs.Faces.{proper, borderPoint, faceAt};
 ghost use Rattle.memory.specs.Memory.{Room, liveFaces};
 ghost use Rattle.lists.specs.Frames.{But};
 ghost use Rattle.mesh.specs.Contracts.Chains.{Tidy};
-ghost use Rattle.mesh.specs.Contracts.Laid.{Bordered};
+ghost use Rattle.mesh.specs.Contracts.Laid.{Kinded};
+ghost use Rattle.placement.specs.declared.Kind.the-variants.{Free, Border};
 ghost use Rattle.ring.specs.Contracts.Marking.{FacesListed, single, somePoint};
 ghost use Rattle.memory.specs.Layout.{farFrom, nearFrom};
 use crate::marking::clear_faces;
@@ -17,6 +19,8 @@ use memory::face_in;
 use memory::mark_at;
 use memory::set_kind;
 use mesh::collect;
+use placement::Kind;
+use placement::kind_number;
 
 // Whether a point other than x has the mark 1.
 fn is_single(w: &[u32], v: usize, f: usize, x: usize, u: u32) -> bool
@@ -73,30 +77,27 @@ fn is_border(w: &mut [u32], v: usize, f: usize, x: usize) -> bool
     found
 }
 
-// A point's kind: 1 for a border point where they are preserved, else 0. Where they are not, no face is looked at.
-fn kind_of(w: &mut [u32], v: usize, f: usize, x: usize, preserve: bool) -> u32
+// The kind of a point that no margin names: border where border points are preserved, else free. Where they are not, no face is looked at.
+fn border_kind(w: &mut [u32], v: usize, f: usize, x: usize, preserve: bool) -> Kind
     requires { ⌜ Tidy v f (now w) ⌝ ∗ ⌜ x < v ⌝ }
-    ensures { λ r. ⌜ r ≡ cond (preserve && borderPoint v (liveFaces f (now (w .entry))) x) 1 0 ⌝ }
+    ensures { λ r. ⌜ r ≡ cond (preserve && borderPoint v (liveFaces f (now (w .entry))) x) Border Free ⌝ }
     ensures { λ _. ⌜ But (nearFrom v f) (farFrom v f) (now (w .entry)) (now (w .exit)) ⌝ }
 {
     if preserve {
         if is_border(w, v, f, x) {
-            return 1;
+            return Kind::Border;
         }
     }
-    0
+    Kind::Free
 }
 
-// Writes every point's kind, and says how many border points are preserved.
-pub fn mark_borders(w: &mut [u32], v: usize, f: usize, preserve: bool) -> usize
+// Writes every point's kind, as it is without a margin.
+pub fn mark_borders(w: &mut [u32], v: usize, f: usize, preserve: bool)
     requires { ⌜ Tidy v f (now w) ⌝ }
-    ensures { λ n. ⌜ Bordered v f preserve (now (w .entry)) (now (w .exit)) n ⌝ }
+    ensures { λ _. ⌜ Kinded v f preserve [] (now (w .entry)) (now (w .exit)) ⌝ }
 {
-    let mut n = 0;
     for x in 0..v {
-        let kind = kind_of(w, v, f, x, preserve);
-        set_kind(w, v, f, x, kind);
-        n += kind as usize;
+        let kind = border_kind(w, v, f, x, preserve);
+        set_kind(w, v, f, x, kind_number(kind));
     }
-    n
 }

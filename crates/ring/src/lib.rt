@@ -3,13 +3,14 @@ mod around;
 mod borders;
 mod common;
 mod gathering;
+mod kinds;
 mod marking;
 
 pub use around::list_around;
-pub use borders::mark_borders;
 pub use common::common_count;
 pub use common::shared_count;
 pub use gathering::gather;
+pub use kinds::mark_kinds;
 pub use marking::clear_faces;
 pub use marking::mark_faces;
 pub use marking::slot_at;

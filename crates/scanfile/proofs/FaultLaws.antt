@@ -77,5 +77,8 @@ module _ (bytes : List ℕ) (kind at : ℕ) where
 pub options-size : {bytes : List ℕ} {at : ℕ} → GoodRecord bytes 1 at → sizeAt bytes at ≡ 12
 options-size p = eqb-true _ _ (not-false _ (p .size-right))
 
-pub whole-size : {bytes : List ℕ} {kind at : ℕ} → eqb kind 1 ≡ false → GoodRecord bytes kind at → sizeAt bytes at % 12 ≡ 0
-whole-size other p = eqb-true _ _ (not-false _ (rw other at (p .size-right)))
+pub whole-size : {bytes : List ℕ} {kind at : ℕ} → eqb kind 1 ≡ false → eqb kind 4 ≡ false → GoodRecord bytes kind at → sizeAt bytes at % 12 ≡ 0
+whole-size no-options no-margin p = eqb-true _ _ (not-false _ (rw (no-options, no-margin) at (p .size-right)))
+
+pub margin-size : {bytes : List ℕ} {at : ℕ} → GoodRecord bytes 4 at → sizeAt bytes at % 4 ≡ 0
+margin-size p = eqb-true _ _ (not-false _ (p .size-right))

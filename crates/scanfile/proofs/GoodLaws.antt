@@ -1,24 +1,24 @@
--- A file is good exactly when it is three records of the right kinds and lengths, a unit and flags that are known, and no byte more.
+-- A file is good exactly when it is three records of the right kinds and lengths, or four, a unit and flags that are known, and no byte more.
 -- Assumes nothing.
-use Prim.Native.Nat.{ℕ, _*_, _/_, _%_, _≤_}
+use Prim.Native.Nat.{ℕ, _+_, _*_, _/_, _%_, _≤_, _<_}
 use native.Mathlib.Omega.{arith}
-use mathlib.Core.Path.{_≡_, refl, sym, ap}
+use mathlib.Core.Path.{_≡_, refl, sym, ap, _∙_}
 use mathlib.Core.Logic.{_⊎_, inl, inr}
 use mathlib.Core.List.{List}
 use mathlib.Core.Bool.{Bool, true, false, not, _||_, cond}
 use lib.Dec.{ltb, eqb}
 use lib.ListN.{length}
 use borrow.Author.Tests.{ltb-false, eqb-true, le-ltb}
-use Rattle.lists.proofs.TestLaws.{either-of}
-use Rattle.records.specs.Records.{sizeAt, kindAt}
+use Rattle.lists.proofs.TestLaws.{by-test, either-of}
+use Rattle.records.specs.Records.{headLength, sizeAt, kindAt, nextAt}
 use Rattle.scanfile.specs.declared.Head.{Head}
 use Rattle.scanfile.specs.declared.Scan.the-variants.{Good}
-use Rattle.scanfile.specs.Layout.{secondAt, thirdAt, thirdAfter, endOf}
+use Rattle.scanfile.specs.Layout.{secondAt, thirdAt, fourthAt, thirdAfter, endAfter, marginAt, marked, lastEnd}
 use Rattle.scanfile.specs.Faults.{unitIn, flagsIn, recordFault, knownUnit, optionsFault}
-use Rattle.scanfile.specs.Scans.{headOf, refuse, scanOf}
-use Rattle.scanfile.specs.Facts.{GoodFile}
-use Rattle.scanfile.proofs.FaultLaws.{GoodRecord, passed, passes, options-size, whole-size}
-use Rattle.scanfile.proofs.ScanLaws.{afterThird, afterSecond, afterOptions, not-refused, NoneRefused, all-good}
+use Rattle.scanfile.specs.Scans.{headOf, refuse, fourthFault, afterLast, afterThird, scanOf}
+use Rattle.scanfile.specs.Facts.{EndsThird, EndsFourth, GoodFile}
+use Rattle.scanfile.proofs.FaultLaws.{GoodRecord, passed, passes, options-size, whole-size, margin-size}
+use Rattle.scanfile.proofs.ScanLaws.{afterSecond, afterOptions, not-refused, NoneRefused, three-passed, no-head, a-head, margin-passed, margin-absent, all-good}
 
 -- ---- the options
 
@@ -39,7 +39,8 @@ known-unit u (inr e) = rw e refl
 
 record AllPassed (bytes : List ℕ) (h : Head) : Type 0 where
   none-refused : NoneRefused bytes
-  none-spare : length bytes ≤ endOf bytes
+  fourth : fourthFault bytes ≡ 0
+  none-spare : length bytes ≤ lastEnd bytes
   head-is : h ≡ headOf bytes
 
 no-spare : (t : Bool) → _≡_ {A = ℕ} (cond t 25 0) 0 → t ≡ false
@@ -54,16 +55,50 @@ all-passed bytes h e =
     let b = not-refused (optionsFault bytes) 0 (afterOptions bytes) h (a .1) in
     let c = not-refused (recordFault bytes 2 secondAt) secondAt (afterSecond bytes) h (b .1) in
     let d = not-refused (recordFault bytes 3 third) third (afterThird bytes) h (c .1) in
-    let f = not-refused (cond (ltb (endOf bytes) (length bytes)) 25 0) (endOf bytes) (Good (headOf bytes)) h (d .1) in
-    let same = f .1 in
+    let f = not-refused (fourthFault bytes) (fourthAt bytes) (afterLast bytes) h (d .1) in
+    let g = not-refused (cond (ltb (lastEnd bytes) (length bytes)) 25 0) (lastEnd bytes) (Good (headOf bytes)) h (f .1) in
+    let same = g .1 in
     record {
       none-refused = record { first = a .0; options = b .0; second = c .0; third = d .0 };
-      none-spare = ltb-false (endOf bytes) (length bytes) (no-spare _ (f .0));
+      fourth = f .0;
+      none-spare = ltb-false (lastEnd bytes) (length bytes) (no-spare _ (g .0));
       head-is = cc;
     }
 
-by-twelve : {size : ℕ} (n : ℕ) → size ≡ 12 * n → not (eqb (size % 12) 0) ≡ false
-by-twelve {size} n e = let none : size % 12 ≡ 0 = omega arith in rw none refl
+-- ---- what follows the third record
+
+module _ {bytes : List ℕ} {h : Head} (p : AllPassed bytes h) (here : fourthAt bytes ≡ endAfter (h .points) (h .faces)) (there : fourthAt bytes ≤ length bytes) where
+  -- how many points the margin names
+  margin-is : {b : Bool} → marked bytes ≡ b → h .margin ≡ cond b (sizeAt bytes (fourthAt bytes) / 4) 0
+  margin-is e = ap (λ (x : Head). x .margin) (p .head-is) ∙ rw e refl
+
+  -- without a fourth record
+  no-fourth : marked bytes ≡ false → EndsThird bytes h
+  no-fourth absent =
+      let none-spare : length bytes ≤ fourthAt bytes = rw absent at (p .none-spare) in
+      record { none-named = margin-is absent; whole = omega arith }
+
+  -- with one: it passed, and no byte follows
+  fourth-good : marked bytes ≡ true → GoodRecord bytes 4 (fourthAt bytes)
+  fourth-good marks = passed bytes 4 (fourthAt bytes) (rw marks at (p .fourth))
+
+  a-fourth : marked bytes ≡ true → EndsFourth bytes h
+  a-fourth marks =
+      let g = fourth-good marks in
+      let size : sizeAt bytes (fourthAt bytes) ≡ 4 * h .margin = omega (arith, margin-is marks, margin-size g) in
+      let none-spare : length bytes ≤ fourthAt bytes + headLength + sizeAt bytes (fourthAt bytes) = rw marks at (p .none-spare) in
+      record {
+        fourth-kind = rw here at (g .kind-right);
+        fourth-size = rw here at size;
+        whole = omega (arith, g .room);
+      }
+
+  -- one or the other
+  ending : EndsThird bytes h ⊎ EndsFourth bytes h
+  ending = by-test (marked bytes) (λ marks. inr (a-fourth marks)) (λ absent. inl (no-fourth absent))
+
+  few-named : h .margin ≤ 128
+  few-named = by-test (marked bytes) (λ marks. omega (arith, margin-is marks, fourth-good marks .size-most)) (λ absent. omega (arith, margin-is absent))
 
 -- ---- good, and what that is
 
@@ -77,8 +112,9 @@ good-file bytes h e =
     let o = options-passed (knownUnit (unitIn bytes)) (ltb 3 (flagsIn bytes)) (p .none-refused .options) in
     let points : h .points ≡ sizeAt bytes secondAt / 12 = ap (λ (x : Head). x .points) (p .head-is) in
     let faces : h .faces ≡ sizeAt bytes (thirdAt bytes) / 12 = ap (λ (x : Head). x .faces) (p .head-is) in
-    let second-size : sizeAt bytes secondAt ≡ 12 * h .points = omega (arith, whole-size refl second) in
-    let third-size : sizeAt bytes (thirdAt bytes) ≡ 12 * h .faces = omega (arith, whole-size refl third) in
+    let second-size : sizeAt bytes secondAt ≡ 12 * h .points = omega (arith, whole-size refl refl second) in
+    let third-size : sizeAt bytes (thirdAt bytes) ≡ 12 * h .faces = omega (arith, whole-size refl refl third) in
+    let here : fourthAt bytes ≡ endAfter (h .points) (h .faces) = omega arith in
     record {
       head-is = p .head-is;
       first-kind = first .kind-right;
@@ -87,37 +123,92 @@ good-file bytes h e =
       first-size = options-size first;
       second-size = second-size;
       third-size = rw second-size at third-size;
-      whole = omega (arith, third .room, p .none-spare);
+      there = omega (arith, third .room);
+      ends = ending p here (third .room);
       points-most = omega (arith, second .size-most);
       faces-most = omega (arith, third .size-most);
+      margin-most = few-named p here (third .room);
       unit-known = rw (p .head-is) (unit-of (unitIn bytes) (o .0));
       flags-known = ltb-false 3 (flagsIn bytes) (o .1);
     }
 
+-- a length that 23 lets through
+by-twelve : {size : ℕ} (n : ℕ) → size ≡ 12 * n → not (eqb (size % 12) 0) ≡ false
+by-twelve {size} n e = let none : size % 12 ≡ 0 = omega arith in rw none refl
+
+by-four : {size : ℕ} (n : ℕ) → size ≡ 4 * n → not (eqb (size % 4) 0) ≡ false
+by-four {size} n e = let none : size % 4 ≡ 0 = omega arith in rw none refl
+
+module _ {bytes : List ℕ} {h : Head} (g : GoodFile bytes h) where
+  -- where the third record is, and how long
+  third-place : thirdAt bytes ≡ thirdAfter (h .points)
+  third-place = omega (arith, g .second-size)
+
+  third-size : sizeAt bytes (thirdAt bytes) ≡ 12 * h .faces
+  third-size = rw third-place (g .third-size)
+
+  -- where a fourth record would start
+  pub fourth-place : fourthAt bytes ≡ endAfter (h .points) (h .faces)
+  fourth-place = omega (arith, third-place, third-size)
+
+  -- whether there is one
+  pub not-marked : length bytes ≡ endAfter (h .points) (h .faces) → marked bytes ≡ false
+  not-marked whole = no-head bytes fourth-place whole
+
+  pub is-marked : EndsFourth bytes h → marked bytes ≡ true
+  is-marked e = a-head bytes fourth-place (omega arith) (e .fourth-kind)
+
+  -- the margin's numbers are all there, if any
+  pub margin-there : 0 < h .margin → marginAt (h .points) (h .faces) + 4 * h .margin ≤ length bytes
+  margin-there some = by-end (g .ends)
+    where
+      by-end : EndsThird bytes h ⊎ EndsFourth bytes h → marginAt (h .points) (h .faces) + 4 * h .margin ≤ length bytes
+      by-end (inl e) = omega arith
+      by-end (inr e) = omega arith
+
+  -- the first three records pass
+  none-refused : NoneRefused bytes
+  unfolding optionsFault
+  none-refused =
+      let kind : kindAt bytes (thirdAt bytes) ≡ 3 = rw third-place (g .third-kind) in
+      let unit : (unitIn bytes ≡ 1) ⊎ (unitIn bytes ≡ 2) = rw (g .head-is) at (g .unit-known) in
+      let size = third-size in
+      let place = third-place in
+      let first : GoodRecord bytes 1 0 =
+      record { kind-right = g .first-kind; size-right = rw (g .first-size) refl; size-most = omega arith; room = omega arith } in
+      let second : GoodRecord bytes 2 secondAt =
+      record { kind-right = g .second-kind; size-right = by-twelve (h .points) (g .second-size); size-most = omega arith; room = omega arith } in
+      let third : GoodRecord bytes 3 (thirdAt bytes) =
+      record { kind-right = kind; size-right = by-twelve (h .faces) size; size-most = omega arith; room = omega arith } in
+      record {
+        first = passes bytes 1 0 first;
+        options = rw (known-unit (unitIn bytes) unit, le-ltb 3 (flagsIn bytes) (g .flags-known)) refl;
+        second = passes bytes 2 secondAt second;
+        third = passes bytes 3 (thirdAt bytes) third;
+      }
+
+  -- and so does what follows them
+  good-end : EndsThird bytes h ⊎ EndsFourth bytes h → Good h ≡ afterThird bytes
+  good-end (inl e) =
+      let absent = not-marked (e .whole) in
+      let end : fourthAt bytes ≡ lastEnd bytes = rw absent refl in
+      all-good bytes (fourthAt bytes) end (omega (arith, fourth-place)) h (g .head-is) ∙ margin-absent bytes absent
+  good-end (inr e) =
+      let marks = is-marked e in
+      let end : nextAt bytes (fourthAt bytes) ≡ lastEnd bytes = rw marks refl in
+      let size : sizeAt bytes (fourthAt bytes) ≡ 4 * h .margin = rw fourth-place (e .fourth-size) in
+      let here = fourth-place in
+      let fourth : GoodRecord bytes 4 (fourthAt bytes) =
+      record { kind-right = rw here (e .fourth-kind); size-right = by-four (h .margin) size; size-most = omega arith; room = omega arith } in
+      all-good bytes (nextAt bytes (fourthAt bytes)) end (omega arith) h (g .head-is) ∙ margin-passed bytes marks (passes bytes 4 (fourthAt bytes) fourth)
+
 pub file-good : (bytes : List ℕ) (h : Head) → GoodFile bytes h → scanOf bytes ≡ Good h
-unfolding optionsFault
-file-good bytes h g =
-    let place : thirdAt bytes ≡ thirdAfter (h .points) = omega (arith, g .second-size) in
-    let kind : kindAt bytes (thirdAt bytes) ≡ 3 = rw place (g .third-kind) in
-    let size : sizeAt bytes (thirdAt bytes) ≡ 12 * h .faces = rw place (g .third-size) in
-    let unit : (unitIn bytes ≡ 1) ⊎ (unitIn bytes ≡ 2) = rw (g .head-is) at (g .unit-known) in
-    let whole : length bytes ≡ endOf bytes = omega arith in
-    let first : GoodRecord bytes 1 0 =
-    record { kind-right = g .first-kind; size-right = rw (g .first-size) refl; size-most = omega arith; room = omega arith } in
-    let second : GoodRecord bytes 2 secondAt =
-    record { kind-right = g .second-kind; size-right = by-twelve (h .points) (g .second-size); size-most = omega arith; room = omega arith } in
-    let third : GoodRecord bytes 3 (thirdAt bytes) =
-    record { kind-right = kind; size-right = by-twelve (h .faces) size; size-most = omega arith; room = omega arith } in
-    let none-refused : NoneRefused bytes =
-    record {
-      first = passes bytes 1 0 first;
-      options = rw (known-unit (unitIn bytes) unit, le-ltb 3 (flagsIn bytes) (g .flags-known)) refl;
-      second = passes bytes 2 secondAt second;
-      third = passes bytes 3 (thirdAt bytes) third;
-    }
-    in
-    sym (all-good none-refused (endOf bytes) refl (omega arith) h (g .head-is))
+file-good bytes h g = sym (good-end g (g .ends) ∙ three-passed (none-refused g))
 
 -- the longest good file
-pub good-longest : (bytes : List ℕ) (h : Head) → scanOf bytes ≡ Good h → length bytes ≤ 4638
-good-longest bytes h e = let g = good-file bytes h e in omega arith
+pub good-longest : (bytes : List ℕ) (h : Head) → scanOf bytes ≡ Good h → length bytes ≤ 5156
+good-longest bytes h e = by-end (good-file bytes h e .ends)
+  where
+    by-end : EndsThird bytes h ⊎ EndsFourth bytes h → length bytes ≤ 5156
+    by-end (inl end) = let g = good-file bytes h e in omega arith
+    by-end (inr end) = let g = good-file bytes h e in omega arith

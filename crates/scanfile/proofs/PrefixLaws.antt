@@ -1,6 +1,6 @@
 -- A program that stops reading at one byte over the longest good file gives the same answer.
 -- Assumes nothing.
-use Prim.Native.Nat.{ℕ, zero, suc, _+_, _*_, _≤_, _<_}
+use Prim.Native.Nat.{ℕ, zero, suc, _+_, _≤_, _<_}
 use native.Mathlib.Omega.{arith}
 use mathlib.Core.Path.{_≡_, refl, sym, ap, _∙_}
 use mathlib.Core.List.{List}
@@ -8,15 +8,16 @@ use mathlib.Core.Bool.{Bool, true, false, not, cond}
 use lib.Dec.{ltb, eqb}
 use lib.ListN.{length, take}
 use lib.Seq.{take-all, length-take-le}
-use borrow.Author.Tests.{ltb-true, ltb-false, lt-ltb, le-ltb}
+use borrow.Author.Tests.{ltb-true, ltb-false, lt-ltb, le-ltb, le-leb}
+use Rattle.lists.proofs.TestLaws.{by-test}
 use Rattle.records.specs.Words.{twoBytes, fourBytes}
-use Rattle.records.specs.Records.{sizeAt, kindAt}
+use Rattle.records.specs.Records.{headLength, sizeAt, kindAt}
 use Rattle.records.proofs.WordLaws.{two-begun, four-begun}
 use Rattle.scanfile.specs.declared.Scan.{Scan}
-use Rattle.scanfile.specs.Layout.{secondAt, thirdAt, endOf}
+use Rattle.scanfile.specs.Layout.{secondAt, thirdAt, fourthAt, hasHead, marked, lastEnd}
 use Rattle.scanfile.specs.Faults.{wrongSize, mostOf, recordFault, optionsFault}
-use Rattle.scanfile.specs.Scans.{headOf, refuse, scanOf}
-use Rattle.scanfile.proofs.ScanLaws.{afterThird, afterSecond, afterOptions}
+use Rattle.scanfile.specs.Scans.{headOf, refuse, fourthFault, afterLast, afterThird, scanOf}
+use Rattle.scanfile.proofs.ScanLaws.{afterSecond, afterOptions}
 use Rattle.scanfile.proofs.FaultLaws.{passed}
 
 -- what comes next matters only where nothing refused
@@ -34,29 +35,23 @@ same-tests : (a b c d d' : Bool) → (c ≡ false → d ≡ d') →
 same-tests a b true d d' same = refl
 same-tests a b false d d' same = rw (same refl) refl
 
-most-bound : (kind : ℕ) → mostOf kind ≤ 3072
-most-bound kind = by-kind (eqb kind 2)
-  where
-    by-kind : (t : Bool) → cond t (128 * 12) (256 * 12) ≤ 3072
-    by-kind true = omega arith
-    by-kind false = omega arith
-
 -- ---- a file with spare bytes, and its beginning
 
-module _ (n : ℕ) (most : 4639 ≤ n) (bytes : List ℕ) (long : n ≤ length bytes) where
+module _ (n : ℕ) (most : 5157 ≤ n) (bytes : List ℕ) (long : n ≤ length bytes) where
   abbrev begin : List ℕ
   begin = take n bytes
 
   begin-length : length begin ≡ n
   begin-length = length-take-le n bytes long
 
-  same-two : (at : ℕ) → at + 2 ≤ 4639 → twoBytes begin at ≡ twoBytes bytes at
+  same-two : (at : ℕ) → at + 2 ≤ 5157 → twoBytes begin at ≡ twoBytes bytes at
   same-two at h = two-begun n bytes at (omega arith)
 
-  same-four : (at : ℕ) → at + 4 ≤ 4639 → fourBytes begin at ≡ fourBytes bytes at
+  same-four : (at : ℕ) → at + 4 ≤ 5157 → fourBytes begin at ≡ fourBytes bytes at
   same-four at h = four-begun n bytes at (omega arith)
 
-  same-fault : (kind at : ℕ) → at ≤ 1560 → recordFault begin kind at ≡ recordFault bytes kind at
+  -- a record that would end within the longest file, were it as long as it may be
+  same-fault : (kind at : ℕ) → at + headLength + mostOf kind ≤ 5156 → recordFault begin kind at ≡ recordFault bytes kind at
   unfolding recordFault
   same-fault kind at h =
       let size = sizeAt bytes at in
@@ -67,8 +62,8 @@ module _ (n : ℕ) (most : 4639 ≤ n) (bytes : List ℕ) (long : n ≤ length b
       (ltb (length begin) (at + 6 + size)) (ltb (length bytes) (at + 6 + size))
       (λ few.
       let few-enough : size ≤ mostOf kind = ltb-false _ _ few in
-      let room : at + 6 + size ≤ length begin = omega (arith, begin-length, most-bound kind) in
-      let room' : at + 6 + size ≤ length bytes = omega (arith, most-bound kind) in
+      let room : at + 6 + size ≤ length begin = omega (arith, begin-length) in
+      let room' : at + 6 + size ≤ length bytes = omega arith in
       le-ltb _ _ room ∙ sym (le-ltb _ _ room')))
 
   same-options : optionsFault begin ≡ optionsFault bytes
@@ -81,28 +76,55 @@ module _ (n : ℕ) (most : 4639 ≤ n) (bytes : List ℕ) (long : n ≤ length b
     same-third : thirdAt begin ≡ thirdAt bytes
     same-third = rw (same-four 18 (omega arith)) refl
 
-    same-end : endOf begin ≡ endOf bytes
-    same-end = rw (same-third, same-four (thirdAt bytes) (omega arith)) refl
+    -- the fourth record's place
+    same-fourth : fourthAt begin ≡ fourthAt bytes
+    same-fourth = rw (same-third, same-four (thirdAt bytes) (omega arith)) refl
 
-    same-head : headOf begin ≡ headOf bytes
-    same-head =
-        rw (
-          same-two 6 (omega arith),
-          same-two 8 (omega arith),
-          same-four 10 (omega arith),
-          same-four 14 (omega arith),
-          same-four 18 (omega arith),
-          same-four (thirdAt bytes) (omega arith),
-        ) refl
+    module _ (third : sizeAt bytes (thirdAt bytes) ≤ 3072) where
+      -- whether it is there, how long it is, and where the last record ends
+      same-marked : marked begin ≡ marked bytes
+      same-marked =
+          let here : fourthAt bytes + headLength ≤ length begin = omega (arith, begin-length) in
+          let there : fourthAt bytes + headLength ≤ length bytes = omega arith in
+          ap (hasHead begin 4) same-fourth ∙ rw (le-leb _ _ here, le-leb _ _ there, same-two (fourthAt bytes + 4) (omega arith)) refl
 
-    same-spare : sizeAt bytes (thirdAt bytes) ≤ 3072 → ltb (endOf begin) (length begin) ≡ ltb (endOf bytes) (length bytes)
-    same-spare third =
-        let here : endOf begin < length begin = omega (arith, begin-length, same-end) in
-        let there : endOf bytes < length bytes = omega arith in
-        lt-ltb _ _ here ∙ sym (lt-ltb _ _ there)
+      same-size : sizeAt begin (fourthAt begin) ≡ sizeAt bytes (fourthAt bytes)
+      same-size = ap (sizeAt begin) same-fourth ∙ same-four (fourthAt bytes) (omega arith)
 
-  same-after-third : sizeAt bytes secondAt ≤ 1536 → sizeAt bytes (thirdAt bytes) ≤ 3072 → afterThird begin ≡ afterThird bytes
-  same-after-third second third = rw (same-spare second third, same-end second, same-head second) refl
+      same-last : lastEnd begin ≡ lastEnd bytes
+      same-last = rw (same-marked, same-size, same-fourth) refl
+
+      same-head : headOf begin ≡ headOf bytes
+      same-head =
+          rw (
+            same-marked,
+            same-size,
+            same-two 6 (omega arith),
+            same-two 8 (omega arith),
+            same-four 10 (omega arith),
+            same-four 14 (omega arith),
+            same-four 18 (omega arith),
+            same-four (thirdAt bytes) (omega arith),
+          ) refl
+
+      -- where it is not refused the last record ends within the longest file
+      fourth-most : fourthFault bytes ≡ 0 → lastEnd bytes ≤ 5156
+      fourth-most none =
+          by-test (marked bytes)
+          (λ marks. let good = passed bytes 4 (fourthAt bytes) (rw marks at none) in rw marks (omega (arith, good .size-most)))
+          (λ absent. rw absent (omega arith))
+
+      same-spare : lastEnd bytes ≤ 5156 → ltb (lastEnd begin) (length begin) ≡ ltb (lastEnd bytes) (length bytes)
+      same-spare last =
+          let here : lastEnd begin < length begin = omega (arith, begin-length, same-last) in
+          let there : lastEnd bytes < length bytes = omega arith in
+          lt-ltb _ _ here ∙ sym (lt-ltb _ _ there)
+
+      same-after-third : afterThird begin ≡ afterThird bytes
+      same-after-third =
+          same-next (fourthFault begin) (fourthFault bytes) (fourthAt begin) (fourthAt bytes) (afterLast begin) (afterLast bytes)
+          (rw (same-marked, same-fourth, same-fault 4 (fourthAt bytes) (omega arith)) refl) same-fourth
+          (λ none. rw (same-spare (fourth-most none), same-last, same-head) refl)
 
   same-after-second : sizeAt bytes secondAt ≤ 1536 → afterSecond begin ≡ afterSecond bytes
   same-after-second second =
@@ -124,7 +146,7 @@ module _ (n : ℕ) (most : 4639 ≤ n) (bytes : List ℕ) (long : n ≤ length b
       (λ _. same-next _ _ 0 0 (afterOptions begin) (afterOptions bytes) same-options refl (λ _. same-after-options))
 
 -- any beginning that is longer than the longest good file
-pub prefix-enough : (n : ℕ) → 4639 ≤ n → (bytes : List ℕ) → scanOf (take n bytes) ≡ scanOf bytes
+pub prefix-enough : (n : ℕ) → 5157 ≤ n → (bytes : List ℕ) → scanOf (take n bytes) ≡ scanOf bytes
 prefix-enough n most bytes = by-length (ltb (length bytes) n) refl
   where
     by-length : (short : Bool) → ltb (length bytes) n ≡ short → scanOf (take n bytes) ≡ scanOf bytes

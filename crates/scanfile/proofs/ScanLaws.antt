@@ -1,24 +1,21 @@
 -- How a file comes to be refused or good: which tests passed, and which did not.
 -- Assumes nothing.
-use Prim.Native.Nat.{ℕ, zero, suc, _≤_, _<_}
+use Prim.Native.Nat.{ℕ, zero, suc, _+_, _≤_, _<_}
 use native.Mathlib.Omega.{arith}
 use mathlib.Core.Path.{_≡_, refl, sym}
 use mathlib.Core.List.{List}
-use mathlib.Core.Bool.{cond}
-use lib.Dec.{ltb}
+use mathlib.Core.Bool.{true, false}
 use lib.ListN.{length}
-use borrow.Author.Tests.{lt-ltb, le-ltb}
+use borrow.Author.Tests.{lt-ltb, le-ltb, le-leb, lt-leb, eq-eqb}
+use Rattle.records.specs.Records.{headLength, kindAt}
 use Rattle.scanfile.specs.declared.Head.{Head}
 use Rattle.scanfile.specs.declared.Scan.{Scan}
 use Rattle.scanfile.specs.declared.Scan.the-variants.{Good, Bad}
-use Rattle.scanfile.specs.Layout.{secondAt, thirdAt, endOf}
+use Rattle.scanfile.specs.Layout.{secondAt, thirdAt, fourthAt, marked, lastEnd}
 use Rattle.scanfile.specs.Faults.{recordFault, optionsFault}
-use Rattle.scanfile.specs.Scans.{headOf, refuse, scanOf}
+use Rattle.scanfile.specs.Scans.{headOf, refuse, afterLast, afterThird, scanOf}
 
 -- ---- the answer from each test on
-
-abbrev pub afterThird : List ℕ → Scan
-afterThird bytes = refuse (cond (ltb (endOf bytes) (length bytes)) 25 0) (endOf bytes) (Good (headOf bytes))
 
 abbrev pub afterSecond : List ℕ → Scan
 afterSecond bytes = refuse (recordFault bytes 3 (thirdAt bytes)) (thirdAt bytes) (afterThird bytes)
@@ -67,11 +64,45 @@ pub record NoneRefused (bytes : List ℕ) : Type 0 where
   pub second : recordFault bytes 2 secondAt ≡ 0
   pub third : recordFault bytes 3 (thirdAt bytes) ≡ 0
 
-module _ {bytes : List ℕ} (t : NoneRefused bytes) where
-  pub spare-refused : (end : ℕ) → end ≡ endOf bytes → end < length bytes → Bad 25 end ≡ scanOf bytes
-  unfolding scanOf
-  spare-refused end here spare = rw (t .first, t .options, t .second, t .third, ← here, lt-ltb end _ spare)
+-- then what follows the third record decides
+pub three-passed : {bytes : List ℕ} → NoneRefused bytes → afterThird bytes ≡ scanOf bytes
+unfolding scanOf
+three-passed t = rw (t .first, t .options, t .second, t .third)
 
-  pub all-good : (end : ℕ) → end ≡ endOf bytes → length bytes ≤ end → (h : Head) → h ≡ headOf bytes → Good h ≡ scanOf bytes
-  unfolding scanOf
-  all-good end here none h e = rw (t .first, t .options, t .second, t .third, ← here, le-ltb end _ none, e)
+-- ---- whether there is a fourth record
+
+module _ (bytes : List ℕ) {end : ℕ} (here : fourthAt bytes ≡ end) where
+  -- not where the third ends the file
+  pub no-head : length bytes ≡ end → marked bytes ≡ false
+  no-head whole =
+      let short : length bytes < fourthAt bytes + headLength = omega arith in
+      rw (lt-leb _ _ short) refl
+
+  -- where a whole head of kind 4 follows it
+  pub a-head : end + headLength ≤ length bytes → kindAt bytes end ≡ 4 → marked bytes ≡ true
+  a-head room kind =
+      let head : fourthAt bytes + headLength ≤ length bytes = omega arith in
+      let right : kindAt bytes (fourthAt bytes) ≡ 4 = rw here kind in
+      rw (le-leb _ _ head, eq-eqb _ _ right) refl
+
+-- ---- the answer from the fourth record on
+
+module _ (bytes : List ℕ) where
+  -- it is refused
+  pub margin-refused : (n place : ℕ) → place ≡ fourthAt bytes → marked bytes ≡ true → n ≡ recordFault bytes 4 place → (n ≡ 0 → ⊥) → Bad n place ≡ afterThird bytes
+  margin-refused n place here there e some = rw (there, ← here, ← e) (sym (refused n place _ some))
+
+  -- it passes, or there is none: then the end decides
+  pub margin-passed : marked bytes ≡ true → recordFault bytes 4 (fourthAt bytes) ≡ 0 → afterLast bytes ≡ afterThird bytes
+  margin-passed there none = rw (there, none)
+
+  pub margin-absent : marked bytes ≡ false → afterLast bytes ≡ afterThird bytes
+  margin-absent absent = rw absent
+
+  module _ (end : ℕ) (here : end ≡ lastEnd bytes) where
+    -- with a spare byte, and with none
+    pub spare-refused : end < length bytes → Bad 25 end ≡ afterLast bytes
+    spare-refused spare = rw (← here, lt-ltb end _ spare)
+
+    pub all-good : length bytes ≤ end → (h : Head) → h ≡ headOf bytes → Good h ≡ afterLast bytes
+    all-good none h e = rw (← here, le-ltb end _ none, e)

@@ -1,4 +1,4 @@
--- What a record is refused by: document 01, "File refusals, per record in order".
+-- What a record is refused by: document 01, "File refusals, per record in order"; for kind 4 document 02, wish 2.
 use Prim.Native.Nat.{ℕ, _+_, _*_, _%_}
 use mathlib.Core.List.{List}
 use mathlib.Core.Bool.{Bool, not, _||_, cond}
@@ -6,15 +6,18 @@ use lib.Dec.{ltb, eqb}
 use lib.ListN.{length}
 use Rattle.records.specs.Words.{twoBytes, fourBytes}
 use Rattle.records.specs.Records.{headLength, sizeAt, kindAt, nextAt}
-use Rattle.scanfile.specs.Layout.{mostPoints, mostFaces, unitAt, flagsAt}
+use Rattle.scanfile.specs.Layout.{mostPoints, mostFaces, mostMargin, unitAt, flagsAt}
 
--- 23: kind 1 not 12 long, or another no multiple of 12
+-- 23: kind 1 not 12 long, kind 4 no multiple of 4, or another no multiple of 12
 abbrev pub wrongSize : ℕ → ℕ → Bool
-wrongSize kind size = cond (eqb kind 1) (not (eqb size 12)) (not (eqb (size % 12) 0))
+wrongSize kind size =
+    cond (eqb kind 1) (not (eqb size 12))
+    (cond (eqb kind 4) (not (eqb (size % 4) 0))
+    (not (eqb (size % 12) 0)))
 
--- 27: at most 128 points and 256 faces, of 12 bytes each (kind 1 is 12 long by 23)
+-- 27: at most 128 points and 256 faces, of 12 bytes each, and 128 points of the margin, of 4 bytes each (kind 1 is 12 long by 23)
 abbrev pub mostOf : ℕ → ℕ
-mostOf kind = cond (eqb kind 2) (mostPoints * 12) (mostFaces * 12)
+mostOf kind = cond (eqb kind 2) (mostPoints * 12) (cond (eqb kind 4) (mostMargin * 4) (mostFaces * 12))
 
 -- the number that refuses the record at an offset, which is to be of a kind, or 0
 unfoldable pub recordFault : List ℕ → ℕ → ℕ → ℕ

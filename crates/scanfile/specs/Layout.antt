@@ -1,7 +1,11 @@
--- Where things stand in a file: three records, of kinds 1, 2 and 3 (document 01, "The program and its file").
+-- Where things stand in a file: three records, of kinds 1, 2 and 3 (document 01, "The program and its file"), and a fourth, of kind 4, which may be
+-- absent (document 02, wish 2).
 use Prim.Native.Nat.{ℕ, _+_, _*_}
 use mathlib.Core.List.{List}
-use Rattle.records.specs.Records.{sizeAt, nextAt}
+use mathlib.Core.Bool.{Bool, _&&_, cond}
+use lib.Dec.{leb, eqb}
+use lib.ListN.{length}
+use Rattle.records.specs.Records.{headLength, sizeAt, kindAt, nextAt}
 
 -- ---- the limits of a file
 
@@ -11,6 +15,10 @@ mostPoints = 128
 
 abbrev pub mostFaces : ℕ
 mostFaces = 256
+
+-- points of the margin, of 4 bytes each
+abbrev pub mostMargin : ℕ
+mostMargin = 128
 
 -- ---- the first record's payload, 12 bytes
 
@@ -46,9 +54,23 @@ pointsAt = 24
 abbrev pub thirdAt : List ℕ → ℕ
 thirdAt bytes = pointsAt + sizeAt bytes secondAt
 
--- where it ends, and no byte may follow
-abbrev pub endOf : List ℕ → ℕ
-endOf bytes = nextAt bytes (thirdAt bytes)
+-- ---- the fourth record, the margin, which may be absent
+
+-- past the third
+abbrev pub fourthAt : List ℕ → ℕ
+fourthAt bytes = nextAt bytes (thirdAt bytes)
+
+-- whether a whole head of a kind stands at an offset
+abbrev pub hasHead : List ℕ → ℕ → ℕ → Bool
+hasHead bytes kind at = leb (at + headLength) (length bytes) && eqb (kindAt bytes at) kind
+
+-- whether the record is there: a whole head of kind 4 follows the third record
+abbrev pub marked : List ℕ → Bool
+marked bytes = hasHead bytes 4 (fourthAt bytes)
+
+-- where the last record ends, and no byte may follow
+abbrev pub lastEnd : List ℕ → ℕ
+lastEnd bytes = cond (marked bytes) (nextAt bytes (fourthAt bytes)) (fourthAt bytes)
 
 -- ---- the same in a file of v points and f faces
 
@@ -60,6 +82,10 @@ thirdAfter v = pointsAt + 12 * v
 abbrev pub facesAt : ℕ → ℕ
 facesAt v = 30 + 12 * v
 
--- where it ends
+-- where it ends, and the fourth may follow
 abbrev pub endAfter : ℕ → ℕ → ℕ
 endAfter v f = facesAt v + 12 * f
+
+-- the fourth record's payload: 4 bytes for each point of the margin
+abbrev pub marginAt : ℕ → ℕ → ℕ
+marginAt v f = endAfter v f + 6

@@ -1,4 +1,4 @@
--- What the C interface tells of a file: a number, and eight cells.
+-- What the C interface tells of a file: a number, and nine cells.
 use Prim.Native.Nat.{ℕ}
 use mathlib.Core.List.{List, [], _∷_}
 use mathlib.Core.Bool.{cond}
@@ -24,10 +24,10 @@ abbrev pub limitPattern : List ℕ → Limit → ℕ
 limitPattern bytes Unlimited = 0
 limitPattern bytes (AtMost most) = fourBytes bytes limitAt
 
--- unit, preserve, limited, limit, ratio, points, faces, place. The floats are told as the file has them, since a NaN has no pattern of its own.
+-- unit, preserve, limited, limit, ratio, points, faces, margin, place. The floats are told as the file has them, since a NaN has no pattern of its own.
 -- A refused file has its place, and zeros before it.
 unfoldable pub cellsOf : List ℕ → Scan → List ℕ
 unfolding fourBytes
 cellsOf bytes (Good h) =
-    h .unit ∷ cond (h .preserve) 1 0 ∷ limited (h .limit) ∷ limitPattern bytes (h .limit) ∷ fourBytes bytes ratioAt ∷ h .points ∷ h .faces ∷ 0 ∷ []
-cellsOf bytes (Bad n place) = 0 ∷ 0 ∷ 0 ∷ 0 ∷ 0 ∷ 0 ∷ 0 ∷ place ∷ []
+    h .unit ∷ cond (h .preserve) 1 0 ∷ limited (h .limit) ∷ limitPattern bytes (h .limit) ∷ fourBytes bytes ratioAt ∷ h .points ∷ h .faces ∷ h .margin ∷ 0 ∷ []
+cellsOf bytes (Bad n place) = 0 ∷ 0 ∷ 0 ∷ 0 ∷ 0 ∷ 0 ∷ 0 ∷ 0 ∷ place ∷ []

@@ -5,6 +5,9 @@ pub const MOST_POINTS: usize = 128;
 
 pub const MOST_FACES: usize = 256;
 
+// The most points of the margin.
+pub const MOST_MARGIN: usize = 128;
+
 // The first record's payload.
 pub const UNIT_AT: usize = 6;
 

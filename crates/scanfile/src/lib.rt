@@ -1,9 +1,13 @@
-// The reader of document 01's file: three records, little-endian. It answers for any bytes, as scanOf of specs/Scans.antt says.
+// The reader of scan files: three or four records, little-endian. It answers for any bytes, as scanOf of specs/Scans.antt says.
 ghost use mathlib.Core.Path.{_≡_};
-ghost use Rattle.scanfile.specs.Scans.{headOf, scanOf};
-ghost use Rattle.scanfile.specs.Contents.{pointsOf, faceNumbersOf};
+ghost use Prim.Native.Nat.{_≤_};
+ghost use Rattle.records.specs.Words.{numbersFrom};
+ghost use Rattle.scanfile.specs.Layout.{lastEnd};
+ghost use Rattle.scanfile.specs.Scans.{marginCount, headOf, afterLast, afterThird, scanOf};
+ghost use Rattle.scanfile.specs.Contents.{pointsOf, faceNumbersOf, marginOf};
 ghost use Rattle.lists.specs.Lists.{overlaid};
-ghost use Rattle.scanfile.specs.Contracts.{HeadsThere, PointsThere, FacesThere};
+ghost use Rattle.scanfile.specs.Contracts.{ThreeThere, PointsThere, FacesThere, NumbersThere, MarginThere};
+use faults::has_head;
 use faults::options_fault;
 use faults::record_fault;
 use layout::FLAGS_AT;
@@ -23,10 +27,11 @@ pub mod faults;
 pub mod layout;
 mod told;
 
-// The longest good file: three heads of 6 bytes, 12 bytes of options, 128 points and 256 faces of 12 bytes each.
-pub const MOST_BYTES: usize = 4638;
+// The longest good file: four heads of 6 bytes, 12 bytes of options, 128 points and 256 faces of 12 bytes each, and 128 points of the
+// margin of 4 bytes each.
+pub const MOST_BYTES: usize = 5156;
 
-// What a good file says before its points and faces.
+// What a good file says beside its points, its faces and the margin.
 pub struct Head {
     // 1 millimetre, 2 micrometre
     pub unit: u32,
@@ -36,6 +41,8 @@ pub struct Head {
     // at most 128 and 256
     pub points: usize,
     pub faces: usize,
+    // at most 128: how many points the margin names
+    pub margin: usize,
 }
 
 // What a file is: good, or refused by a number, 21 to 27, and a place.
@@ -44,9 +51,9 @@ pub enum Scan {
     Bad(u32, u32),
 }
 
-// The head of a good file, whose third record starts at an offset.
-fn head_of(bytes: &[u8], third: usize) -> Head
-    requires { ⌜ HeadsThere (now bytes) third ⌝ }
+// The head of a good file, whose third record starts at an offset, and whose margin names so many points.
+fn head_of(bytes: &[u8], third: usize, margin: usize) -> Head
+    requires { ⌜ ThreeThere (now bytes) third ⌝ ∗ ⌜ margin ≡ marginCount (now bytes) ⌝ }
     ensures { λ r. ⌜ r ≡ headOf (now (bytes .entry)) ⌝ }
 {
     let flags = two_bytes(bytes, FLAGS_AT);
@@ -58,7 +65,36 @@ fn head_of(bytes: &[u8], third: usize) -> Head
         ratio: float_at(bytes, RATIO_AT),
         points: four_bytes(bytes, SECOND_AT) as usize / 12,
         faces: four_bytes(bytes, third) as usize / 12,
+        margin,
     }
+}
+
+// What a file is none of whose records is refused. The third starts at an offset, the last ends at one, and the margin names so many points.
+fn read_end(bytes: &[u8], at: usize, end: usize, margin: usize) -> Scan
+    requires { ⌜ ThreeThere (now bytes) at ⌝ ∗ ⌜ end ≡ lastEnd (now bytes) ⌝ ∗ ⌜ end ≤ 5156 ⌝ ∗ ⌜ margin ≡ marginCount (now bytes) ⌝ }
+    ensures { λ r. ⌜ r ≡ afterLast (now (bytes .entry)) ⌝ }
+{
+    if end < bytes.len() {
+        return Scan::Bad(25, end as u32);
+    }
+    Scan::Good(head_of(bytes, at, margin))
+}
+
+// What a file is none of whose first three records is refused. The third starts at an offset.
+fn read_tail(bytes: &[u8], at: usize) -> Scan
+    requires { ⌜ ThreeThere (now bytes) at ⌝ }
+    ensures { λ r. ⌜ r ≡ afterThird (now (bytes .entry)) ⌝ }
+{
+    let fourth = at + HEAD_LENGTH + four_bytes(bytes, at) as usize;
+    if !has_head(bytes, 4, fourth) {
+        return read_end(bytes, at, fourth, 0);
+    }
+    let fault = record_fault(bytes, 4, fourth);
+    if fault != 0 {
+        return Scan::Bad(fault, fourth as u32);
+    }
+    let size = four_bytes(bytes, fourth) as usize;
+    read_end(bytes, at, fourth + HEAD_LENGTH + size, size / 4)
 }
 
 // What a file is.
@@ -82,11 +118,7 @@ pub fn read_scan(bytes: &[u8]) -> Scan
     if third != 0 {
         return Scan::Bad(third, at as u32);
     }
-    let end = at + HEAD_LENGTH + four_bytes(bytes, at) as usize;
-    if end < bytes.len() {
-        return Scan::Bad(25, end as u32);
-    }
-    Scan::Good(head_of(bytes, at))
+    read_tail(bytes, at)
 }
 
 // Reads the coordinates of so many points, three each, to the beginning of out.
@@ -99,12 +131,33 @@ pub fn read_points(bytes: &[u8], points: usize, out: &mut [f32])
     }
 }
 
+// Reads so many numbers, the first at an offset, to the beginning of out.
+fn read_numbers(bytes: &[u8], at: usize, n: usize, out: &mut [u32])
+    requires { ⌜ NumbersThere (now bytes) at n (now out) ⌝ }
+    ensures { λ _. ⌜ now (out .exit) ≡ overlaid (numbersFrom (now (bytes .entry)) at n) (now (out .entry)) ⌝ }
+{
+    for i in 0..n {
+        out[i] = four_bytes(bytes, at + 4 * i);
+    }
+}
+
 // Reads the point numbers of so many faces, three each, to the beginning of out. The faces stand behind so many points.
 pub fn read_faces(bytes: &[u8], points: usize, faces: usize, out: &mut [u32])
     requires { ⌜ FacesThere (now bytes) points faces (now out) ⌝ }
     ensures { λ _. ⌜ now (out .exit) ≡ overlaid (faceNumbersOf (now (bytes .entry)) points faces) (now (out .entry)) ⌝ }
 {
-    for i in 0..3 * faces {
-        out[i] = four_bytes(bytes, 30 + 12 * points + 4 * i);
-    }
+    read_numbers(bytes, 30 + 12 * points, 3 * faces, out)
+}
+
+// Reads the numbers of so many points of the margin to the beginning of out. They stand behind so many points and faces.
+pub fn read_margin(bytes: &[u8], points: usize, faces: usize, margin: usize, out: &mut [u32])
+    requires { ⌜ MarginThere (now bytes) points faces margin (now out) ⌝ }
+    ensures { λ _. ⌜ now (out .exit) ≡ overlaid (marginOf (now (bytes .entry)) points faces margin) (now (out .entry)) ⌝ }
+{
+    read_numbers(
+        bytes,
+        30 + 12 * points + 12 * faces + HEAD_LENGTH,
+        margin,
+        out,
+    )
 }

@@ -1,4 +1,4 @@
-// The reader for C: what a file is, as a number and eight cells.
+// The reader for C: what a file is, as a number and nine cells.
 ghost use mathlib.Core.Path.{_≡_};
 ghost use mathlib.Core.Bool.{cond};
 ghost use Prim.Native.Nat.{ℕ, _≤_};
@@ -44,7 +44,7 @@ fn yes_as_one(yes: bool) -> u32
 }
 
 // The cells of a good file.
-fn tell_good(bytes: &[u8], h: Head, cells: &mut [u32; 8])
+fn tell_good(bytes: &[u8], h: Head, cells: &mut [u32; 9])
     requires { ⌜ Tellable (now bytes) h ⌝ }
     ensures { λ _. ⌜ now (cells .exit) ≡ cellsOf (now (bytes .entry)) (Scan.Good h) ⌝ }
 {
@@ -57,13 +57,14 @@ fn tell_good(bytes: &[u8], h: Head, cells: &mut [u32; 8])
         four_bytes(bytes, RATIO_AT),
         h.points as u32,
         h.faces as u32,
+        h.margin as u32,
         0,
     ];
 }
 
-// What a file is: the number, with the cells unit, preserve, limited, limit, ratio, points, faces and place.
+// What a file is: the number, with the cells unit, preserve, limited, limit, ratio, points, faces, margin and place.
 #[no_mangle]
-pub extern "C" fn tell_scan(bytes: &[u8], cells: &mut [u32; 8]) -> u32
+pub extern "C" fn tell_scan(bytes: &[u8], cells: &mut [u32; 9]) -> u32
     ensures number { λ r. ⌜ r ≡ numberOf (scanOf (now (bytes .entry))) ⌝ }
     ensures cells { λ _. ⌜ now (cells .exit) ≡ cellsOf (now (bytes .entry)) (scanOf (now (bytes .entry))) ⌝ }
 {
@@ -74,7 +75,7 @@ pub extern "C" fn tell_scan(bytes: &[u8], cells: &mut [u32; 8]) -> u32
             0
         }
         Scan::Bad(number, place) => {
-            *cells = [0, 0, 0, 0, 0, 0, 0, place];
+            *cells = [0, 0, 0, 0, 0, 0, 0, 0, place];
             number
         }
     }

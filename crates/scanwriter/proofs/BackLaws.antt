@@ -20,12 +20,12 @@ use Rattle.scanfile.specs.Faults.{unitIn}
 use Rattle.scanfile.specs.Scans.{scanOf}
 use Rattle.scanfile.specs.Contents.{pointsOf, faceNumbersOf}
 use Rattle.scanfile.specs.Files.{Writable, contentsOf, fileOf}
-use Rattle.scanfile.proofs.GoodLaws.{good-file}
+use Rattle.scanfile.proofs.GoodLaws.{good-file, not-marked}
 use Rattle.scanfile.proofs.FileLaws.{good-written, written-length, found, written-good, written-points, written-faces}
 use Rattle.scanwriter.specs.declared.Writing.the-variants.{Bytes}
 use Rattle.scanwriter.specs.Written.{scanContents, scanBytes, writingOf, bufferAfter, ScanWritten}
 use Rattle.scanwriter.specs.Contracts.{ScanFits}
-use Rattle.scanwriter.specs.Back.{writtenHead, ReadBack, writtenAgain, ZeroOptions, OneNan}
+use Rattle.scanwriter.specs.Back.{writtenHead, ReadBack, writtenAgain, ZeroOptions, NoMargin, OneNan}
 use Rattle.scanwriter.proofs.WritingLaws as writing
 
 -- ---- what fits is a file's contents
@@ -40,6 +40,7 @@ writable {points = points} fit =
       points-most = fit .points-most;
       faces-count = fit .faces-by-three;
       faces-most = fit .faces-most;
+      margin-most = omega arith;
     }
 
 -- the bits of f32s are those floats again
@@ -124,8 +125,8 @@ patterns-back (n ∷ ns) each =
     cc
 
 module _ (bytes : List ℕ) (h : Head) (good : scanOf bytes ≡ Good h) where
-  -- only if kind 1 had those zeros
-  pub same-only-if : writtenAgain bytes h ≡ bytes → ZeroOptions bytes
+  -- only if kind 1 had those zeros and there was no kind 4
+  pub same-only-if : writtenAgain bytes h ≡ bytes → ZeroOptions bytes × NoMargin bytes
   same-only-if same =
       let v = h .points in
       let f = h .faces in
@@ -142,13 +143,16 @@ module _ (bytes : List ℕ) (h : Head) (good : scanOf bytes ≡ Good h) where
         points-most = g .points-most;
         faces-count = numbers-count bytes (facesAt v) (3 * f);
         faces-most = g .faces-most;
+        margin-most = omega arith;
       } in
-      let there = found c v f w bytes (sym same) in
-      record { flags = there .flags; ratio = there .ratio; limit = there .limit }
+      let there = found c v f w bytes (sym same) in (
+        record { flags = there .flags; ratio = there .ratio; limit = there .limit },
+        record { absent = not-marked g (there .tail .whole) },
+      )
 
   -- and then it does, where every NaN among the points is the one
-  pub same-then : ((i : ℕ) → getD bytes i 0 < 256) → ZeroOptions bytes → OneNan bytes (h .points) → writtenAgain bytes h ≡ bytes
-  same-then small zeros one =
+  pub same-then : ((i : ℕ) → getD bytes i 0 < 256) → ZeroOptions bytes → NoMargin bytes → OneNan bytes (h .points) → writtenAgain bytes h ≡ bytes
+  same-then small zeros unmarked one =
       let v = h .points in
       let f = h .faces in
       let numbers = numbersFrom bytes pointsAt (3 * v) in
@@ -160,6 +164,6 @@ module _ (bytes : List ℕ) (h : Head) (good : scanOf bytes ≡ Good h) where
       let within : i < 3 * v = omega (arith, count) in
       rw (number-at bytes pointsAt (3 * v) i within)
       (pattern-back (fourBytes bytes (pointsAt + 4 * i)) (four-small bytes small (pointsAt + 4 * i)) (one .pattern i within))) in
-      let held : scanContents (h .unit) (pointsOf bytes v) (faceNumbersOf bytes v f) ≡ contentsOf bytes v f =
-      rw (unit, points, zeros .flags, zeros .ratio, zeros .limit) refl in
+      let held : scanContents (h .unit) (pointsOf bytes v) (faceNumbersOf bytes v f) ≡ contentsOf bytes h =
+      rw (unit, points, zeros .flags, zeros .ratio, zeros .limit, unmarked .absent) refl in
       ap fileOf held ∙ sym (good-written bytes h good small)

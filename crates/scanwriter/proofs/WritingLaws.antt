@@ -117,7 +117,7 @@ module _ (unit : ℕ) (points : List Float) (faces old : List ℕ) where
       ScanWritten unit points faces old old (Refused number place)
   none-written e = record { answered = e; written = ap (λ (w : Writing). bufferAfter w (scanBytes unit points faces) old) e }
 
--- no file is longer than the longest good one
+-- the longest file that is written
 pub longest : {unit : ℕ} {points : List Float} {faces old new : List ℕ} {w : Writing} {n : ℕ} → ScanWritten unit points faces old new w → w ≡ Bytes n → n ≤ 4638
 longest {unit} {points} {faces} {old} {n = n} done is =
     let fit = fits unit points faces old n (sym (done .answered) ∙ is) in

@@ -9,7 +9,7 @@ use Rattle.placement.specs.declared.Limit.the-variants.{Unlimited}
 use Rattle.records.specs.Words.{fourBytes, floatAt, numbersFrom}
 use Rattle.scanfile.specs.declared.Head.{Head}
 use Rattle.scanfile.specs.declared.Scan.the-variants.{Good}
-use Rattle.scanfile.specs.Layout.{ratioAt, limitAt, pointsAt}
+use Rattle.scanfile.specs.Layout.{ratioAt, limitAt, pointsAt, marked}
 use Rattle.scanfile.specs.Faults.{flagsIn}
 use Rattle.scanfile.specs.Scans.{scanOf}
 use Rattle.scanfile.specs.Contents.{pointsOf, faceNumbersOf}
@@ -17,10 +17,10 @@ use Rattle.scanwriter.specs.Written.{scanBytes}
 
 -- ---- reading what was written
 
--- the head of a written file: its unit, preserve off, no limit, ratio +0
+-- the head of a written file: its unit, preserve off, no limit, ratio +0, no margin
 abbrev pub writtenHead : (unit v f : ℕ) → Head
 writtenHead unit v f =
-    record { unit = unit; preserve = false; limit = Unlimited; ratio = ofBits binary32 0; points = v; faces = f }
+    record { unit = unit; preserve = false; limit = Unlimited; ratio = ofBits binary32 0; points = v; faces = f; margin = 0 }
 
 -- Bytes are a good file, in which the reader finds the unit, the points and the faces. The points' bits are theirs, but for a NaN's, which are 7fc00000:
 -- in the logic there is one NaN, and `toBits` gives it that pattern.
@@ -41,6 +41,10 @@ pub record ZeroOptions (bytes : List ℕ) : Type 0 where
   pub flags : flagsIn bytes ≡ 0
   pub ratio : fourBytes bytes ratioAt ≡ 0
   pub limit : fourBytes bytes limitAt ≡ 0
+
+-- the file has no kind 4
+pub record NoMargin (bytes : List ℕ) : Type 0 where
+  pub absent : marked bytes ≡ false
 
 -- every NaN among the v points has the pattern 7fc00000
 pub record OneNan (bytes : List ℕ) (v : ℕ) : Type 0 where

@@ -2,6 +2,7 @@
 use Prim.Native.Nat.{ℕ, _+_, _*_, _/_, _%_}
 use mathlib.Core.Path.{_≡_}
 use mathlib.Core.List.{List, [], _∷_, map}
+use mathlib.Core.Option.{none}
 use mathlib.Core.Bool.{not, _||_, cond}
 use lib.Dec.{ltb, eqb}
 use lib.ListN.{length}
@@ -15,10 +16,10 @@ use Rattle.scanwriter.specs.declared.Writing.the-variants.{Bytes, Refuse
 
 -- ---- the file
 
--- what it holds: the unit, no flags, ratio +0, limit +0; the points by their bits, a NaN as 7fc00000; the faces
+-- what it holds: the unit, no flags, ratio +0, limit +0; the points by their bits, a NaN as 7fc00000; the faces; no margin
 abbrev pub scanContents : ℕ → List Float → List ℕ → Contents
 scanContents unit points faces =
-    record { unit = unit; flags = 0; ratio = 0; limit = 0; points = map (toBits binary32) points; faces = faces }
+    record { unit = unit; flags = 0; ratio = 0; limit = 0; points = map (toBits binary32) points; faces = faces; margin = none }
 
 -- its bytes: kind 1, then points and faces
 abbrev pub scanBytes : ℕ → List Float → List ℕ → List ℕ

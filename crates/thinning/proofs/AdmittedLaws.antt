@@ -78,12 +78,12 @@ leaves-within o works within leaves =
     (record { u32s = leaves .u32s-left ∙ rw works; f32s = leaves .f32s-left ∙ rw works; f64s = leaves .f64s-left ∙ rw works }))
 
 -- what the walk came to is the same whatever room there is
-pub same-walk : (points : List Float) (faces : List ℕ) (options : Options) (before : Lent)
+pub same-walk : (points : List Float) (faces margin : List ℕ) (options : Options) (before : Lent)
     {engine : Engine} {u u' : List ℕ} {p q p' q' : List Float} {folds folds' : List ℕ} {came : Came} →
-    MeshWalked engine (inputWalked points faces options) u p q u' p' q' folds folds' came →
-    MeshWalked engine (inputOf points faces options before) u p q u' p' q' folds folds' came
+    MeshWalked engine (inputWalked points faces margin options) u p q u' p' q' folds folds' came →
+    MeshWalked engine (inputOf points faces margin options before) u p q u' p' q' folds folds' came
 unfolding lastMesh foldsWalked startOf targetOf
-same-walk points faces options before walked = record {
+same-walk points faces margin options before walked = record {
   walked =
       record {
         laid-u32s = walked .walked .laid-u32s;
@@ -97,8 +97,8 @@ same-walk points faces options before walked = record {
   within = walked .within;
   last-mesh = walked .last-mesh;
   aim = walked .aim;
-  borders-held = walked .borders-held;
-  borders-few = walked .borders-few;
+  fixed-counted = walked .fixed-counted;
+  fixed-few = walked .fixed-few;
   folds-made = walked .folds-made;
   folds-few = walked .folds-few;
   folds-listed = walked .folds-listed;
@@ -114,7 +114,7 @@ module _ (i : Input) {engine : Engine} {points : List Float} {faces : List ℕ} 
     working = working-within room (walked .within);
     points-fit = points-fit;
     faces-fit = faces-fit;
-    borders-few = walked .borders-few;
+    fixed-few = walked .fixed-few;
     folds-few = walked .folds-few;
   }
 

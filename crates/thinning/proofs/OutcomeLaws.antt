@@ -25,11 +25,11 @@ use Rattle.walking.specs.Contracts.{MeshWalked}
 use Rattle.thinning.specs.Contracts.{stuckOutcome, outcomeIn}
 use Rattle.thinning.proofs.MemoryLaws.{parts-written}
 
--- ---- from the last mesh to the outcome, which hangs on the target, the border points, the folds, the faces left and the parts of their points
+-- ---- from the last mesh to the outcome, which hangs on the target, the fixed points, the folds, the faces left and the parts of their points
 
 abbrev outcomeFrom : ℕ → ℕ → ℕ → ℕ → List Face → List Float → Outcome
-outcomeFrom f target borders folds faces parts =
-    cond (eqb folds 0 && ltb target f) (stuckOutcome borders)
+outcomeFrom f target fixed folds faces parts =
+    cond (eqb folds 0 && ltb target f) (stuckOutcome fixed)
     (record {
       answer = record { number = 0; place = 0; points = length (used [] faces); faces = length faces; folds = folds };
       points = parts;
@@ -54,5 +54,5 @@ outcome-is i {w = w} {p = p} {q = q} verdict walked =
     let parts : partsOf p (used [] (liveFaces (facesIn i) w)) ≡ partsIn (rulesIn i) (lastMesh i) (used [] (lastMesh i .faces)) =
     parts-written (rulesIn i) p q (walked .tidy)
     ∙ ap₂ (λ (m : Mesh Vertex) (fs : List Face). partsIn (rulesIn i) m (used [] fs)) (walked .last-mesh) same in
-    same-outcome (facesIn i) (walked .aim) (walked .borders-held) (walked .folds-made) same parts
+    same-outcome (facesIn i) (walked .aim) (walked .fixed-counted) (walked .folds-made) same parts
     ∙ ap (λ (d : Verdict). outcomeBy d i) (sym verdict)

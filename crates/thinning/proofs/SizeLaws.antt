@@ -6,12 +6,13 @@ use lib.Ieee.{Float}
 use lib.ListN.{length}
 use Rattle.meaning.specs.declared.Options.{Options}
 use Rattle.meaning.specs.Call.{Lent, inputOf}
+use Rattle.meaning.proofs.MarginVerdictLaws.{all-named}
 use Rattle.checks.specs.Facts.{Sized, Admissible}
 use Rattle.walking.specs.Contracts.{Working, Layable}
 use Rattle.thinning.specs.Contracts.{Measured}
 
-module _ (points : List Float) (faces : List ℕ) (options : Options) (before : Lent) where
-  working : Sized (inputOf points faces options before) → Working (length points / 3) (length faces / 3) (before .u32s) (before .f32s) (before .f64s)
+module _ (points : List Float) (faces margin : List ℕ) (options : Options) (before : Lent) where
+  working : Sized (inputOf points faces margin options before) → Working (length points / 3) (length faces / 3) (before .u32s) (before .f32s) (before .f64s)
   working sized = record {
     u32s = record { points-few = sized .points-most; faces-few = sized .faces-most; long = sized .room-u32s };
     f32s = sized .room-f32s;
@@ -19,7 +20,7 @@ module _ (points : List Float) (faces : List ℕ) (options : Options) (before : 
   }
 
   -- what a copy asks
-  pub measured : Sized (inputOf points faces options before) → Measured (length points / 3) (length faces / 3) points faces before
+  pub measured : Sized (inputOf points faces margin options before) → Measured (length points / 3) (length faces / 3) points faces before
   measured sized = record {
     points-by-three = sized .points-by-three;
     faces-by-three = sized .faces-by-three;
@@ -29,11 +30,12 @@ module _ (points : List Float) (faces : List ℕ) (options : Options) (before : 
   }
 
   -- what laying out asks
-  pub ready : Admissible (inputOf points faces options before) →
-      Layable (length points / 3) (length faces / 3) points faces (before .u32s) (before .f32s) (before .f64s)
+  pub ready : Admissible (inputOf points faces margin options before) →
+      Layable (length points / 3) (length faces / 3) points faces margin (before .u32s) (before .f32s) (before .f64s)
   ready fine = record {
     points-by-three = fine .sized .points-by-three;
     faces-by-three = fine .sized .faces-by-three;
     faces-proper = fine .faces-proper;
+    margin-named = all-named (length points / 3) margin (fine .margin-good);
     working = working (fine .sized);
   }

@@ -36,7 +36,7 @@ pub record Standing (v f : ℕ) (came : Came) (before : Lent) : Type 0 where
   pub working : Working v f (before .u32s) (before .f32s) (before .f64s)
   pub points-fit : 3 * v ≤ length (before .points)
   pub faces-fit : 3 * f ≤ length (before .faces)
-  pub borders-few : came .borders ≤ v
+  pub fixed-few : came .fixed ≤ v
   pub folds-few : came .folds ≤ f
 
 -- ---- what they leave
@@ -54,7 +54,7 @@ pub record Zeroed (v f : ℕ) (u : List ℕ) (p q : List Float) (u' : List ℕ) 
 
 -- the outcome where the walk is stuck: nothing is written
 abbrev pub stuckOutcome : ℕ → Outcome
-stuckOutcome borders = record { answer = stuckAnswer borders; points = []; faces = []; worked = true }
+stuckOutcome fixed = record { answer = stuckAnswer fixed; points = []; faces = []; worked = true }
 
 -- the outcome of the mesh that stands in memory: the live faces in face order, points numbered by first use
 abbrev pub thinnedIn : ℕ → ℕ → List ℕ → List Float → Outcome
@@ -69,7 +69,7 @@ thinnedIn f folds u p =
 
 -- stuck where no fold was made and there are more faces than the target
 abbrev pub outcomeIn : ℕ → Came → List ℕ → List Float → Outcome
-outcomeIn f came u p = cond (eqb (came .folds) 0 && ltb (came .target) f) (stuckOutcome (came .borders)) (thinnedIn f (came .folds) u p)
+outcomeIn f came u p = cond (eqb (came .folds) 0 && ltb (came .target) f) (stuckOutcome (came .fixed)) (thinnedIn f (came .folds) u p)
 
 -- an outcome is answered and written, and of the work memory at most the marks have changed
 pub record Finished (v f : ℕ) (o : Outcome)

@@ -32,13 +32,13 @@ fn refusal(number: u32, place: u32) -> Answer
     }
 }
 
-// 10 where border points are held, and else 11.
-fn stuck(borders: usize) -> Answer
-    requires { ⌜ borders ≤ 65536 ⌝ }
-    ensures { λ r. ⌜ r ≡ Outcomes.stuckAnswer borders ⌝ }
+// 10 where points are fixed, and else 11.
+fn stuck(fixed: usize) -> Answer
+    requires { ⌜ fixed ≤ 65536 ⌝ }
+    ensures { λ r. ⌜ r ≡ Outcomes.stuckAnswer fixed ⌝ }
 {
-    if 0 < borders {
-        refusal(10, borders as u32)
+    if 0 < fixed {
+        refusal(10, fixed as u32)
     } else {
         refusal(11, 0)
     }
@@ -90,11 +90,11 @@ fn answered(
     out_points: &mut [f32],
     out_faces: &mut [u32],
 ) -> Answer
-    requires { ⌜ Tidy v f (now w) ⌝ ∗ ⌜ 3 * v ≤ length (now p) ⌝ ∗ ⌜ 3 * v ≤ length (now «out_points») ⌝ ∗ ⌜ 3 * f ≤ length (now «out_faces») ⌝ ∗ ⌜ (came .borders ≤ v) × (came .folds ≤ f) ⌝ }
+    requires { ⌜ Tidy v f (now w) ⌝ ∗ ⌜ 3 * v ≤ length (now p) ⌝ ∗ ⌜ 3 * v ≤ length (now «out_points») ⌝ ∗ ⌜ 3 * f ≤ length (now «out_faces») ⌝ ∗ ⌜ (came .fixed ≤ v) × (came .folds ≤ f) ⌝ }
     ensures { λ r. ⌜ Finished v f (outcomeIn f came (now (w .entry)) (now (p .entry))) (now (w .entry)) (now («out_points» .entry)) (now («out_faces» .entry)) (now (w .exit)) (now («out_points» .exit)) (now («out_faces» .exit)) r ⌝ }
 {
     if (came.folds == 0) & (came.target < f) {
-        return stuck(came.borders);
+        return stuck(came.fixed);
     }
     let counts = output::write_mesh(w, p, v, f, out_points, out_faces);
     Answer {
@@ -130,6 +130,7 @@ fn admitted(
     engine: Engine,
     points: &[f32],
     faces: &[u32],
+    margin: &[u32],
     options: Options,
     out_points: &mut [f32],
     out_faces: &mut [u32],
@@ -138,20 +139,22 @@ fn admitted(
     q: &mut [f64],
     folds: &mut [u32],
 ) -> Answer
-    requires { ⌜ verdictOf (inputOf (now points) (now faces) options (lent (now «out_points») (now «out_faces») (now w) (now p) (now q))) ≡ Admitted ⌝ }
-    ensures { λ r. ⌜ ThinnedBy engine (inputOf (now (points .entry)) (now (faces .entry)) options (lent (now («out_points» .entry)) (now («out_faces» .entry)) (now (w .entry)) (now (p .entry)) (now (q .entry)))) (lent (now («out_points» .entry)) (now («out_faces» .entry)) (now (w .entry)) (now (p .entry)) (now (q .entry))) (lent (now («out_points» .exit)) (now («out_faces» .exit)) (now (w .exit)) (now (p .exit)) (now (q .exit))) (now (folds .entry)) (now (folds .exit)) r ⌝ }
+    requires { ⌜ verdictOf (inputOf (now points) (now faces) (now margin) options (lent (now «out_points») (now «out_faces») (now w) (now p) (now q))) ≡ Admitted ⌝ }
+    ensures { λ r. ⌜ ThinnedBy engine (inputOf (now (points .entry)) (now (faces .entry)) (now (margin .entry)) options (lent (now («out_points» .entry)) (now («out_faces» .entry)) (now (w .entry)) (now (p .entry)) (now (q .entry)))) (lent (now («out_points» .entry)) (now («out_faces» .entry)) (now (w .entry)) (now (p .entry)) (now (q .entry))) (lent (now («out_points» .exit)) (now («out_faces» .exit)) (now (w .exit)) (now (p .exit)) (now (q .exit))) (now (folds .entry)) (now (folds .exit)) r ⌝ }
 {
-    let came = walked(engine, points, faces, options, w, p, q, folds);
+    let came = walked(engine, points, faces, margin, options, w, p, q, folds);
     let v = points.len() / 3;
     let f = faces.len() / 3;
     finished(came, v, f, out_points, out_faces, w, p, q)
 }
 
-// Thins a mesh and lists its folds: keep and remove of each, as far as there is room. For any input the answer and every lent cell are those of document 01.
+// Thins a mesh and lists its folds: keep and remove of each, as far as there is room. The margin's points stay where they are.
+// For any input the answer and every lent cell are those of documents 01 and 02.
 pub fn thin(
     engine: Engine,
     points: &[f32],
     faces: &[u32],
+    margin: &[u32],
     options: Options,
     out_points: &mut [f32],
     out_faces: &mut [u32],
@@ -160,7 +163,7 @@ pub fn thin(
     work_f64: &mut [f64],
     folds: &mut [u32],
 ) -> Answer
-    ensures { λ r. ⌜ ThinnedBy engine (inputOf (now (points .entry)) (now (faces .entry)) options (lent (now («out_points» .entry)) (now («out_faces» .entry)) (now («work_u32» .entry)) (now («work_f32» .entry)) (now («work_f64» .entry)))) (lent (now («out_points» .entry)) (now («out_faces» .entry)) (now («work_u32» .entry)) (now («work_f32» .entry)) (now («work_f64» .entry))) (lent (now («out_points» .exit)) (now («out_faces» .exit)) (now («work_u32» .exit)) (now («work_f32» .exit)) (now («work_f64» .exit))) (now (folds .entry)) (now (folds .exit)) r ⌝ }
+    ensures { λ r. ⌜ ThinnedBy engine (inputOf (now (points .entry)) (now (faces .entry)) (now (margin .entry)) options (lent (now («out_points» .entry)) (now («out_faces» .entry)) (now («work_u32» .entry)) (now («work_f32» .entry)) (now («work_f64» .entry)))) (lent (now («out_points» .entry)) (now («out_faces» .entry)) (now («work_u32» .entry)) (now («work_f32» .entry)) (now («work_f64» .entry))) (lent (now («out_points» .exit)) (now («out_faces» .exit)) (now («work_u32» .exit)) (now («work_f32» .exit)) (now («work_f64» .exit))) (now (folds .entry)) (now (folds .exit)) r ⌝ }
 {
     let rooms = Rooms {
         points: out_points.len(),
@@ -169,7 +172,7 @@ pub fn thin(
         f32s: work_f32.len(),
         f64s: work_f64.len(),
     };
-    match checks::verdict_of(points, faces, rooms, options, BOUND) {
+    match checks::verdict_of(points, faces, margin, rooms, options, BOUND) {
         Verdict::Refused(number, place) => refusal(number, place),
         Verdict::Copied => copied(
             points,
@@ -184,6 +187,7 @@ pub fn thin(
             engine,
             points,
             faces,
+            margin,
             options,
             out_points,
             out_faces,

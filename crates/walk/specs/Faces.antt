@@ -36,11 +36,6 @@ unfoldable pub borderPoint : ℕ → List Face → ℕ → Bool
 unfolding some
 borderPoint v faces x = some (borderEdge faces x) (below v)
 
--- the border points below v, counted
-unfoldable pub borderCount : ℕ → List Face → ℕ
-unfolding borderPoint
-borderCount v faces = count (borderPoint v faces) (below v)
-
 -- a face edge runs from x to y
 abbrev pub runs : ℕ → ℕ → Face → Bool
 runs x y f = (eqb x (f .a) && eqb y (f .b)) || (eqb x (f .b) && eqb y (f .c)) || (eqb x (f .c) && eqb y (f .a))

@@ -24,14 +24,14 @@ use Rattle.walking.specs.declared.Engine.{Engine}
 use Rattle.walking.specs.declared.Engine.the-variants.{Plain}
 use Rattle.walking.specs.Contracts.{Working, LaidOut, Walkable, WalkedBy, MeshWalked}
 use Rattle.walking.proofs.WithinLaws.{working-within}
-use Rattle.walking.proofs.LaidLaws.{borders-few}
+use Rattle.walking.proofs.LaidLaws.{fixed-few}
 use Rattle.plainwalk.proofs.MemoryLaws.{within-then}
 
 -- ---- from the mesh that is laid out to the last mesh
 
 -- what the walk asks
-pub walk-asked : {v f borders : ℕ} {points : List Float} {faces : List ℕ} {preserve : Bool} {u w : List ℕ} {pu qu p q : List Float} →
-    Working v f u pu qu → LaidOut v f points faces preserve u pu qu w p q borders → Walkable v f w p q
+pub walk-asked : {v f n : ℕ} {points : List Float} {faces : List ℕ} {preserve : Bool} {margin u w : List ℕ} {pu qu p q : List Float} →
+    Working v f u pu qu → LaidOut v f points faces preserve margin u pu qu w p q n → Walkable v f w p q
 walk-asked room laid =
     let still = working-within room (laid .within) in
     record { tidy = laid .tidy; all-live = laid .all-live; places-fit = omega arith; costs-fit = omega arith }
@@ -49,8 +49,8 @@ module _ {engine : Engine} {v f target : ℕ} {limit : Limit} {bound : Float} {w
   by-heap asked walked =
       record { done = heap-walk-is-the-plain-walk target limit bound (asked .tidy) (asked .all-live) walked; chained = λ told. walked }
 
-module _ {engine : Engine} (i : Input) {target borders : ℕ} {u w w' : List ℕ} {pu qu p q p' q' : List Float} {r : Walked} (aim : target ≡ targetOf i)
-    (laid : LaidOut (pointsIn i) (facesIn i) (i .points) (i .faces) (i .options .preserve) u pu qu w p q borders)
+module _ {engine : Engine} (i : Input) {target fixed : ℕ} {u w w' : List ℕ} {pu qu p q p' q' : List Float} {r : Walked} (aim : target ≡ targetOf i)
+    (laid : LaidOut (pointsIn i) (facesIn i) (i .points) (i .faces) (i .options .preserve) (i .margin) u pu qu w p q fixed)
     (walked : WalkedBy engine (pointsIn i) (facesIn i) target (i .options .limit) (i .bound) w p q w' p' q' r) where
   last-mesh : meshOf (pointsIn i) (facesIn i) w' p' q' ≡ lastMesh i
   unfolding lastMesh startOf
@@ -71,15 +71,15 @@ module _ {engine : Engine} (i : Input) {target borders : ℕ} {u w w' : List ℕ
 
   -- the walk's contract, once they are listed
   pub mesh-walked : (folds : List ℕ) {folds' : List ℕ} → folds' ≡ listed (foldsIn (pointsIn i) (facesIn i) w' (r .folds)) folds →
-      MeshWalked engine i u pu qu w' p' q' folds folds' (record { target = target; borders = borders; folds = r .folds })
+      MeshWalked engine i u pu qu w' p' q' folds folds' (record { target = target; fixed = fixed; folds = r .folds })
   mesh-walked folds here = record {
     walked = record { laid-u32s = w; laid-f32s = p; laid-f64s = q; laid = laid; live = r .live; by-engine = walked };
     tidy = walked .done .tidy;
     within = within-then (laid .within) (walked .done .within);
     last-mesh = last-mesh;
     aim = aim;
-    borders-held = laid .counted;
-    borders-few = rw (laid .counted) (borders-few (pointsIn i) (facesOf (facesIn i) (i .faces)) (i .options .preserve));
+    fixed-counted = laid .counted;
+    fixed-few = rw (laid .counted) (fixed-few (pointsIn i) (facesOf (facesIn i) (i .faces)) (i .options .preserve) (i .margin));
     folds-made = folds-made;
     folds-few = folds-few;
     folds-listed = here ∙ ap (λ (made : List Pair). listed made folds) folds-are;

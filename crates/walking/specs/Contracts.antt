@@ -2,20 +2,21 @@
 use Prim.Native.Nat.{ℕ, _*_, _≤_}
 use mathlib.Core.Path.{_≡_}
 use mathlib.Core.List.{List}
-use mathlib.Core.Bool.{Bool, true, cond}
+use mathlib.Core.Bool.{Bool, true}
 use lib.ListN.{length}
 use lib.Ieee.{Float}
 use Rattle.lists.specs.Lists.{every}
-use Rattle.walk.specs.Faces.{proper, facesOf, borderCount}
+use Rattle.walk.specs.Faces.{proper, facesOf}
 use Rattle.memory.specs.Layout.{costsTo, placesTo, f32sNeeded, f64sNeeded}
 use Rattle.memory.specs.Memory.{Room, liveFaces}
 use Rattle.memory.specs.Points.{meshOf}
 use Rattle.mesh.specs.Contracts.Chains.{Tidy}
+use Rattle.ring.specs.Contracts.Kinds.{NamesPoints}
 use Rattle.plainwalk.specs.Steps.{Within}
 use Rattle.meaning.specs.declared.Options.{Options}
 use Rattle.meaning.specs.Input.{Input, pointsIn, facesIn}
-use Rattle.meaning.specs.Start.{startMesh}
-use Rattle.meaning.specs.Outcome.{targetOf, lastMesh, foldsWalked, bordersHeld}
+use Rattle.meaning.specs.Start.{fixedCount, startMesh}
+use Rattle.meaning.specs.Outcome.{targetOf, lastMesh, foldsWalked, fixedIn}
 use Rattle.meaning.specs.Call.{coordinateBound, listed}
 use Rattle.plainwalk.specs.declared.Walked.{Walked}
 use Rattle.plainwalk.specs.Whole.{WalkDone}
@@ -31,11 +32,12 @@ pub record Working (v f : ℕ) (u : List ℕ) (p q : List Float) : Type 0 where
   pub f32s : f32sNeeded v f ≤ length p
   pub f64s : f64sNeeded v f ≤ length q
 
--- a mesh that may be laid out: three numbers to a point and to a face, faces with three distinct points, and work memory for them
-pub record Layable (v f : ℕ) (points : List Float) (faces : List ℕ) (u : List ℕ) (p q : List Float) : Type 0 where
+-- a mesh that may be laid out: three numbers to a point and to a face, faces with three distinct points, a margin of points, and work memory for them
+pub record Layable (v f : ℕ) (points : List Float) (faces margin : List ℕ) (u : List ℕ) (p q : List Float) : Type 0 where
   pub points-by-three : length points ≡ 3 * v
   pub faces-by-three : length faces ≡ 3 * f
   pub faces-proper : every (proper v) (facesOf f faces) ≡ true
+  pub margin-named : NamesPoints v margin
   pub working : Working v f u p q
 
 -- a mesh in memory that may be walked
@@ -45,21 +47,22 @@ pub record Walkable (v f : ℕ) (u : List ℕ) (p q : List Float) : Type 0 where
   pub places-fit : placesTo v f ≤ length p
   pub costs-fit : costsTo v f ≤ length q
 
--- the mesh at the start in the work memory, and the number of border points that are held
-pub record LaidOut (v f : ℕ) (points : List Float) (faces : List ℕ) (preserve : Bool)
-    (u : List ℕ) (p q : List Float) (u' : List ℕ) (p' q' : List Float) (borders : ℕ) : Type 0 where
+-- the mesh at the start in the work memory, and the number of points that are fixed
+pub record LaidOut (v f : ℕ) (points : List Float) (faces : List ℕ) (preserve : Bool) (margin : List ℕ)
+    (u : List ℕ) (p q : List Float) (u' : List ℕ) (p' q' : List Float) (n : ℕ) : Type 0 where
   pub tidy : Tidy v f u'
   pub within : Within v f u p q u' p' q'
-  pub same-mesh : meshOf v f u' p' q' ≡ startMesh v f points faces preserve
+  pub same-mesh : meshOf v f u' p' q' ≡ startMesh v f points faces preserve margin
   pub all-live : length (liveFaces f u') ≡ f
-  pub counted : borders ≡ cond preserve (borderCount v (facesOf f faces)) 0
+  pub counted : n ≡ fixedCount v (facesOf f faces) preserve margin
 
 -- an input as the walk sees it: it looks at no lent buffer, so the room in them is left out
-abbrev pub inputWalked : List Float → List ℕ → Options → Input
-inputWalked points faces options =
+abbrev pub inputWalked : List Float → (faces margin : List ℕ) → Options → Input
+inputWalked points faces margin options =
     record {
       points = points;
       faces = faces;
+      margin = margin;
       rooms = record { points = 0; faces = 0; u32s = 0; f32s = 0; f64s = 0 };
       options = options;
       bound = coordinateBound;
@@ -75,7 +78,7 @@ pub record LaidAndWalked (engine : Engine) (i : Input) (u : List ℕ) (p q : Lis
   pub laid-u32s : List ℕ
   pub laid-f32s : List Float
   pub laid-f64s : List Float
-  pub laid : LaidOut (pointsIn i) (facesIn i) (i .points) (i .faces) (i .options .preserve) u p q laid-u32s laid-f32s laid-f64s (came .borders)
+  pub laid : LaidOut (pointsIn i) (facesIn i) (i .points) (i .faces) (i .options .preserve) (i .margin) u p q laid-u32s laid-f32s laid-f64s (came .fixed)
   pub live : ℕ
   pub by-engine : WalkedBy engine (pointsIn i) (facesIn i) (came .target) (i .options .limit) (i .bound) laid-u32s laid-f32s laid-f64s u' p' q'
       (record { folds = came .folds; live = live })
@@ -87,8 +90,8 @@ pub record MeshWalked (engine : Engine) (i : Input) (u : List ℕ) (p q : List F
   pub within : Within (pointsIn i) (facesIn i) u p q u' p' q'
   pub last-mesh : meshOf (pointsIn i) (facesIn i) u' p' q' ≡ lastMesh i
   pub aim : came .target ≡ targetOf i
-  pub borders-held : came .borders ≡ bordersHeld i
-  pub borders-few : came .borders ≤ pointsIn i
+  pub fixed-counted : came .fixed ≡ fixedIn i
+  pub fixed-few : came .fixed ≤ pointsIn i
   pub folds-made : came .folds ≡ length (foldsWalked i)
   pub folds-few : came .folds ≤ facesIn i
   pub folds-listed : folds' ≡ listed (foldsWalked i) folds

@@ -20,17 +20,18 @@ pub enum Engine {
     Heap,
 }
 
-// What the walk of a mesh came to: the faces it was to reach, the border points that are held, and the folds made.
+// What the walk of a mesh came to: the faces it was to reach, how many points are fixed, and the folds made.
 pub struct Came {
     pub target: usize,
-    pub borders: usize,
+    pub fixed: usize,
     pub folds: usize,
 }
 
-// Lays the mesh out in the work memory as it is at the start, and counts the border points that are held.
+// Lays the mesh out in the work memory as it is at the start, and counts the points that are fixed.
 fn laid_out(
     points: &[f32],
     faces: &[u32],
+    margin: &[u32],
     preserve: bool,
     w: &mut [u32],
     p: &mut [f32],
@@ -38,14 +39,14 @@ fn laid_out(
     v: usize,
     f: usize,
 ) -> usize
-    requires { ⌜ Layable v f (now points) (now faces) (now w) (now p) (now q) ⌝ }
-    ensures { λ n. ⌜ LaidOut v f (now (points .entry)) (now (faces .entry)) preserve (now (w .entry)) (now (p .entry)) (now (q .entry)) (now (w .exit)) (now (p .exit)) (now (q .exit)) n ⌝ }
+    requires { ⌜ Layable v f (now points) (now faces) (now margin) (now w) (now p) (now q) ⌝ }
+    ensures { λ n. ⌜ LaidOut v f (now (points .entry)) (now (faces .entry)) preserve (now (margin .entry)) (now (w .entry)) (now (p .entry)) (now (q .entry)) (now (w .exit)) (now (p .exit)) (now (q .exit)) n ⌝ }
 {
     mesh::lay_faces(faces, w, v, f);
-    let borders = ring::mark_borders(w, v, f, preserve);
+    let fixed = ring::mark_kinds(w, v, f, preserve, margin);
     mesh::lay_points(points, p, v);
     mesh::lay_quadrics(w, p, q, v, f);
-    borders
+    fixed
 }
 
 // Walks the mesh that is laid out.
@@ -93,25 +94,26 @@ pub fn walked(
     engine: Engine,
     points: &[f32],
     faces: &[u32],
+    margin: &[u32],
     options: Options,
     w: &mut [u32],
     p: &mut [f32],
     q: &mut [f64],
     folds: &mut [u32],
 ) -> Came
-    requires { ⌜ Layable (length (now points) / 3) (length (now faces) / 3) (now points) (now faces) (now w) (now p) (now q) ⌝ }
-    ensures { λ r. ⌜ MeshWalked engine (inputWalked (now (points .entry)) (now (faces .entry)) options) (now (w .entry)) (now (p .entry)) (now (q .entry)) (now (w .exit)) (now (p .exit)) (now (q .exit)) (now (folds .entry)) (now (folds .exit)) r ⌝ }
+    requires { ⌜ Layable (length (now points) / 3) (length (now faces) / 3) (now points) (now faces) (now margin) (now w) (now p) (now q) ⌝ }
+    ensures { λ r. ⌜ MeshWalked engine (inputWalked (now (points .entry)) (now (faces .entry)) (now (margin .entry)) options) (now (w .entry)) (now (p .entry)) (now (q .entry)) (now (w .exit)) (now (p .exit)) (now (q .exit)) (now (folds .entry)) (now (folds .exit)) r ⌝ }
 {
     let v = points.len() / 3;
     let f = faces.len() / 3;
     let limit = options.limit;
     let target = bits::cut::target(options.ratio, f as u32) as usize;
-    let borders = laid_out(points, faces, options.preserve, w, p, q, v, f);
+    let fixed = laid_out(points, faces, margin, options.preserve, w, p, q, v, f);
     let walked = walk_by(engine, w, p, q, v, f, target, limit);
     list_folds(w, v, f, walked.folds, folds);
     Came {
         target: target,
-        borders: borders,
+        fixed: fixed,
         folds: walked.folds,
     }
 }

@@ -5,10 +5,10 @@ use Rattle.text.specs.Words.{ascii}
 use Rattle.text.specs.Digits.{digits, digitCount, decimal}
 use Rattle.wording.specs.Meanings.{meanings, rowOf, placed, wordsLine}
 
--- with a byte's place, with a count of border points, without a place, and of an unknown number
+-- with a byte's place, with a count of fixed points, without a place, and of an unknown number
 pub said : (wordsLine 21 84 ∷ wordsLine 10 4 ∷ wordsLine 11 0 ∷ wordsLine 99 5 ∷ []) ≡
     (ascii "answer 21: a record is cut short or missing (byte 84)\n"
-    ∷ ascii "answer 10: nothing could be joined, and border points are held (border points: 4)\n"
+    ∷ ascii "answer 10: nothing could be joined, and points are held (fixed points: 4)\n"
     ∷ ascii "answer 11: nothing could be joined\n"
     ∷ ascii "answer 99: refused\n"
     ∷ [])

@@ -25,15 +25,16 @@ meanings =
     ∷ (7, "a coordinate is not finite or is above the bound", " (coordinate ")
     ∷ (8, "a face names a point that is not there", " (face ")
     ∷ (9, "a face names one point twice", " (face ")
-    ∷ (10, "nothing could be joined, and border points are held", " (border points: ")
+    ∷ (10, "nothing could be joined, and points are held", " (fixed points: ")
     ∷ (11, "nothing could be joined", "")
+    ∷ (12, "the margin does not ascend or names a missing point", " (entry ")
     ∷ (21, "a record is cut short or missing", " (byte ")
     ∷ (22, "a record of another kind stands here", " (byte ")
     ∷ (23, "a record's length is wrong", " (byte ")
     ∷ (24, "the unit is neither 1 (millimetre) nor 2 (micrometre)", " (byte ")
     ∷ (25, "bytes follow the last record", " (byte ")
     ∷ (26, "a flag is set that has no meaning", " (byte ")
-    ∷ (27, "more than 128 points or 256 faces", " (byte ")
+    ∷ (27, "more than 128 points, 256 faces or 128 margin points", " (byte ")
     ∷ (31, "the buffer for the file is too short", "")
     ∷ []
 

@@ -31,9 +31,11 @@ const MISSING_POINT: [u8; 53] = *b"a face names a point that is not there|      
 
 const SAME_POINT: [u8; 53] = *b"a face names one point twice|                        ";
 
-const BORDER_HELD: [u8; 53] = *b"nothing could be joined, and border points are held| ";
+const POINTS_HELD: [u8; 53] = *b"nothing could be joined, and points are held|        ";
 
 const NOTHING_JOINED: [u8; 53] = *b"nothing could be joined|                             ";
+
+const BAD_MARGIN: [u8; 53] = *b"the margin does not ascend or names a missing point| ";
 
 // What the file's mean.
 const CUT_SHORT: [u8; 53] = *b"a record is cut short or missing|                    ";
@@ -48,7 +50,7 @@ const BYTES_FOLLOW: [u8; 53] = *b"bytes follow the last record|                 
 
 const UNKNOWN_FLAG: [u8; 53] = *b"a flag is set that has no meaning|                   ";
 
-const OVER_FILE_LIMIT: [u8; 53] = *b"more than 128 points or 256 faces|                   ";
+const OVER_FILE_LIMIT: [u8; 53] = *b"more than 128 points, 256 faces or 128 margin points|";
 
 const SHORT_FILE_BUFFER: [u8; 53] = *b"the buffer for the file is too short|                ";
 
@@ -60,7 +62,9 @@ const COORDINATE: [u8; 17] = *b" (coordinate |   ";
 
 const FACE: [u8; 17] = *b" (face |         ";
 
-const BORDER_POINTS: [u8; 17] = *b" (border points: ";
+const FIXED_POINTS: [u8; 17] = *b" (fixed points: |";
+
+const ENTRY: [u8; 17] = *b" (entry |        ";
 
 const BYTE: [u8; 17] = *b" (byte |         ";
 
@@ -80,8 +84,9 @@ fn meaning(number: u32) -> Cells
         7 => Cells(BAD_COORDINATE, COORDINATE),
         8 => Cells(MISSING_POINT, FACE),
         9 => Cells(SAME_POINT, FACE),
-        10 => Cells(BORDER_HELD, BORDER_POINTS),
+        10 => Cells(POINTS_HELD, FIXED_POINTS),
         11 => Cells(NOTHING_JOINED, NO_PLACE),
+        12 => Cells(BAD_MARGIN, ENTRY),
         21 => Cells(CUT_SHORT, BYTE),
         22 => Cells(OTHER_KIND, BYTE),
         23 => Cells(WRONG_LENGTH, BYTE),

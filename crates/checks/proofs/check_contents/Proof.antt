@@ -2,20 +2,20 @@
 -- Assumes nothing.
 use borrow.Author.Needs.{needs}
 use lib.Ieee.{ofBits}
-use Rattle.checks.proofs.ContentsLaws.{seven, copied, faces-decide}
+use Rattle.checks.proofs.ContentsLaws.{seven, copied, numbers-decide}
 use Rattle.checks.proofs.check_contents.Statement.{statement}
 use Rattle.checks.proofs.check_contents.Tie as tie
 
 returns : tie.Need-returns
-returns c = seven _ _ _ _ (c .before .first-bad .ensures) (c .if1 .taken)
+returns c = seven _ _ _ _ _ (c .before .first-bad .ensures) (c .if1 .taken)
 
 returns-2 : tie.Need-returns-2
 unfolding ofBits
-returns-2 c = copied _ _ _ _ (c .before .before .first-bad .ensures) (c .before .if1 .left) (c .if2 .taken)
+returns-2 c = copied _ _ _ _ _ (c .before .before .first-bad .ensures) (c .before .if1 .left) (c .if2 .taken)
 
 returns-3 : tie.Need-returns-3
 unfolding ofBits
-returns-3 c = faces-decide _ _ _ _ (c .before .before .before .first-bad .ensures) (c .before .before .if1 .left) (c .before .if2 .left) (c .check-faces .ensures)
+returns-3 c = numbers-decide _ _ _ _ _ (c .before .before .before .first-bad .ensures) (c .before .before .if1 .left) (c .before .if2 .left) (c .check-numbers .ensures)
 
 pub check-contents-spec : {M : Type 1} → statement M
 check-contents-spec =

@@ -28,8 +28,8 @@ returns : tie.Need-returns
 returns c =
     let call = c .before .before .before .before .before .before .before .before .before .before .before .before .before .before in
     let made = call .before .before .before .before .before .before .before in
-    let a = made .before .before .before .before .before .before .before .before .before .args in
-    called-with-folds (λ options. inputOf (a .points .now) (a .faces .now) options (lent (a .out-points .now) (a .out-faces .now) (a .work-u32 .now) (a .work-f32 .now) (a .work-f64 .now)))
+    let a = made .before .before .before .before .before .before .before .before .before .before .args in
+    called-with-folds (λ options. inputOf (a .points .now) (a .faces .now) (a .margin .now) options (lent (a .out-points .now) (a .out-faces .now) (a .work-u32 .now) (a .work-f32 .now) (a .work-f64 .now)))
     (made .options-of .ensures) (call .thin .ensures) (c .tell .ensures)
 
 pub hjoltravan-thin-folds-spec : {M : Type 1} → statement M

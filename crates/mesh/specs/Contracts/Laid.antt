@@ -2,10 +2,12 @@
 use Prim.Native.Nat.{ℕ, _<_}
 use mathlib.Core.Path.{_≡_}
 use mathlib.Core.List.{List}
-use mathlib.Core.Bool.{Bool, _&&_, cond}
-use Rattle.walk.specs.Faces.{facesOf, borderPoint, borderCount}
+use mathlib.Core.Bool.{Bool}
+use Rattle.placement.specs.Choices.{kindNumber}
+use Rattle.walk.specs.Faces.{facesOf}
 use Rattle.memory.specs.Memory.{liveFaces, kind}
 use Rattle.lists.specs.Frames.{But}
+use Rattle.meaning.specs.Start.{startKind}
 use Rattle.mesh.specs.Contracts.Chains.{Tidy}
 use Rattle.memory.specs.Layout.{farFrom, kindsFrom, stampsFrom}
 
@@ -15,9 +17,8 @@ pub record Laid (v f : ℕ) (faces w w' : List ℕ) : Type 0 where
   pub tidy : Tidy v f w'
   pub same-faces : liveFaces f w' ≡ facesOf f faces
 
--- every point has its kind: 1 for a border point where they are preserved, else 0. The number of border points is counted only where they are preserved.
-pub record Bordered (v f : ℕ) (preserve : Bool) (w w' : List ℕ) (n : ℕ) : Type 0 where
+-- every point has its kind's number
+pub record Kinded (v f : ℕ) (preserve : Bool) (margin w w' : List ℕ) : Type 0 where
   pub but : But (kindsFrom v f) (farFrom v f) w w'
   pub tidy : Tidy v f w'
-  pub kinds : (x : ℕ) → x < v → kind v f w' x ≡ cond (preserve && borderPoint v (liveFaces f w) x) 1 0
-  pub counted : n ≡ cond preserve (borderCount v (liveFaces f w)) 0
+  pub kinds : (x : ℕ) → x < v → kind v f w' x ≡ kindNumber (startKind v (liveFaces f w) preserve margin x)

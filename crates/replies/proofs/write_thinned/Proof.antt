@@ -15,7 +15,7 @@ abbrev made : tie.After-thin → tie.After-work-f64-cells
 made c = c .before .before .before .before .before .before .before
 
 abbrev start : tie.After-thin → tie.Start
-start c = made c .before .before .before .before .before .before .before .before
+start c = made c .before .before .before .before .before .before .before .before .before
 
 -- the memory, the input that the reply names, and its outcome
 abbrev memory : tie.After-thin → Lent
@@ -24,16 +24,16 @@ memory c =
     lent (m .before .before .before .before .point-cells .result) (m .before .before .before .face-cells .result) (m .before .before .work-u32-cells .result) (m .before .work-f32-cells .result) (m .work-f64-cells .result)
 
 abbrev callHere : tie.After-thin → Input
-callHere c = callOf (start c .args .head) (start c .args .points .now) (start c .args .faces .now)
+callHere c = callOf (start c .args .head) (start c .args .points .now) (start c .args .faces .now) (start c .args .margin .now)
 
 abbrev outcomeHere : tie.After-thin → Outcome
 outcomeHere c = outcome (callHere c)
 
 -- the library is handed that input
-same : (c : tie.After-thin) → inputOf (start c .args .points .now) (start c .args .faces .now) (headOptions (start c .args .head)) (memory c) ≡ callHere c
+same : (c : tie.After-thin) → inputOf (start c .args .points .now) (start c .args .faces .now) (start c .args .margin .now) (headOptions (start c .args .head)) (memory c) ≡ callHere c
 same c =
     let m = made c in
-    same-call (start c .args .head) (start c .args .points .now) (start c .args .faces .now) (memory c)
+    same-call (start c .args .head) (start c .args .points .now) (start c .args .faces .now) (start c .args .margin .now) (memory c)
     (m .before .before .before .before .point-cells .ensures) (m .before .before .before .face-cells .ensures) (m .before .before .work-u32-cells .ensures) (m .before .work-f32-cells .ensures) (m .work-f64-cells .ensures)
 
 write-answer-requires : tie.Need-write-answer-requires

@@ -18,14 +18,14 @@ read-points-requires c κs =
     let told = c .before .before in
     let start = told .before .before .before .before .before .before in
     let g = good-file _ _ (is-good told) in
-    record { there = omega (arith, g .whole); room = start .pre .points-room _ (is-good told) }
+    record { there = omega (arith, g .there); room = start .pre .points-room _ (is-good told) }
 
 read-faces-requires : tie.Need-read-faces-requires
 read-faces-requires c κs =
     let told = c .before .before .before .before .before .before in
     let start = told .before .before .before .before .before .before in
     let g = good-file _ _ (is-good told) in
-    record { there = omega (arith, g .whole); room = start .pre .faces-room _ (is-good told) }
+    record { there = omega (arith, g .there); room = start .pre .faces-room _ (is-good told) }
 
 returns : tie.Need-returns
 returns c =

@@ -4,11 +4,10 @@ use Prim.Native.Nat.{ℕ, _+_}
 use native.Mathlib.Omega.{arith}
 use mathlib.Core.Path.{_≡_, sym, ap, _∙_}
 use mathlib.Core.List.{List}
-use Rattle.records.specs.Records.{headLength}
-use Rattle.scanfile.specs.Layout.{secondAt, pointsAt, thirdAt, endOf}
+use Rattle.scanfile.specs.Layout.{secondAt, pointsAt, thirdAt}
 use Rattle.scanfile.specs.Faults.{recordFault, optionsFault}
 use Rattle.scanfile.proofs.FaultLaws.{GoodRecord, passed, options-size}
-use Rattle.scanfile.proofs.ScanLaws.{NoneRefused, first-refused, options-refused, second-refused, third-refused, spare-refused, all-good}
+use Rattle.scanfile.proofs.ScanLaws.{NoneRefused, first-refused, options-refused, second-refused, third-refused, three-passed}
 use borrow.Author.Needs.{needs}
 use Rattle.scanfile.proofs.read_scan.Statement.{statement}
 use Rattle.scanfile.proofs.read_scan.Tie as tie
@@ -50,14 +49,6 @@ none-refused c =
           ∙ c .if4 .left;
     }
 
-third : (c : tie.Else4) → GoodRecord (file (firstPassed (secondPassed c))) 3 (thirdAt (file (firstPassed (secondPassed c))))
-third c = passed _ _ _ (none-refused c .third)
-
-ends : (c : tie.After-four-bytes2) →
-    pointsAt + c .before .before .before .four-bytes .result + headLength + c .four-bytes2 .result
-    ≡ endOf (file (firstPassed (secondPassed (c .before))))
-ends c = cc
-
 returns : tie.Need-returns
 returns c = first-refused _ _ (c .before .record-fault .ensures) (c .if1 .taken)
 
@@ -78,8 +69,8 @@ four-bytes-requires c κs = omega (arith, second c .room)
 record-fault-requires-3 : tie.Need-record-fault-requires-3
 record-fault-requires-3 c κs = omega (arith, c .four-bytes .ensures, second (c .before) .size-most)
 
-cast-t12 : tie.Need-cast-t12
-cast-t12 c =
+cast-t11 : tie.Need-cast-t11
+cast-t11 c =
     let size = c .before .before in
     record { fits = omega (arith, size .four-bytes .ensures, second (size .before) .size-most) }
 
@@ -90,31 +81,20 @@ returns-4 c =
     third-refused _ _ (first (known .before .before)) (options known) (sym (size .before .before .record-fault2 .ensures) ∙ size .before .if3 .left) _
     (ap (λ (n : ℕ). pointsAt + n) (size .four-bytes .ensures)) (c .before .record-fault3 .ensures) (c .if4 .taken)
 
-four-bytes-requires-2 : tie.Need-four-bytes-requires-2
-four-bytes-requires-2 c κs = omega (arith, c .before .before .four-bytes .ensures, third c .room)
-
-cast-t14 : tie.Need-cast-t14
-cast-t14 c =
-    let known = c .before .before in
-    record { fits = omega (arith, ends (c .before), second (secondPassed known) .size-most, third known .size-most) }
-
-returns-5 : tie.Need-returns-5
-returns-5 c = spare-refused (none-refused (c .before .before)) _ (ends (c .before)) (c .if5 .taken)
-
-head-of-requires : tie.Need-head-of-requires
-head-of-requires c κs =
-    let known = c .before .before in
-    let size = known .before .before .four-bytes .ensures in
+read-tail-requires : tie.Need-read-tail-requires
+read-tail-requires c κs =
+    let file = file (firstPassed (secondPassed c)) in
+    let here : pointsAt + c .before .before .four-bytes .result ≡ thirdAt file = ap (λ (n : ℕ). pointsAt + n) (c .before .before .four-bytes .ensures) in
+    let third = passed file 3 (thirdAt file) (none-refused c .third) in
     record {
-      second = omega (arith, second (secondPassed known) .room);
-      third-head = omega (arith, size, third known .room);
-      third-is = ap (λ (n : ℕ). pointsAt + n) size;
+      third-is = here;
+      third-most = omega (arith, second (secondPassed c) .size-most);
+      size-most = rw here (third .size-most);
+      there = rw here (third .room);
     }
 
-returns-6 : tie.Need-returns-6
-returns-6 c =
-    let last = c .before .before in
-    all-good (none-refused (last .before)) _ (ends last) (c .before .if5 .left) _ (c .head-of .ensures)
+returns-5 : tie.Need-returns-5
+returns-5 c = c .read-tail .ensures ∙ three-passed (none-refused (c .before))
 
 pub read-scan-spec : {M : Type 1} → statement M
 read-scan-spec =
@@ -131,13 +111,7 @@ read-scan-spec =
     (λ c. search needs)
     (λ c. search needs)
     record-fault-requires-3
-    cast-t12
+    cast-t11
     returns-4
-    (λ c. search needs)
-    four-bytes-requires-2
-    (λ c. search needs)
-    (λ c. search needs)
-    cast-t14
-    returns-5
-    head-of-requires
-    returns-6)
+    read-tail-requires
+    returns-5)

@@ -15,7 +15,7 @@ abbrev buffers : tie.Start → Lent
 buffers c = lent (c .args .out-points .now) (c .args .out-faces .now) (c .args .w .now) (c .args .p .now) (c .args .q .now)
 
 abbrev input : tie.Start → Input
-input c = inputOf (c .args .points .now) (c .args .faces .now) (c .args .options) (buffers c)
+input c = inputOf (c .args .points .now) (c .args .faces .now) (c .args .margin .now) (c .args .options) (buffers c)
 
 -- what the checks have shown of it
 fine : (c : tie.Start) → Admissible (input c)
@@ -23,17 +23,17 @@ fine c = verdicts.admitted (input c) (c .pre)
 
 walked-requires : tie.Need-walked-requires
 walked-requires c κs =
-    let start = c .before .before .before .before .before .before .before .before .before .before .before .before in
-    ready (start .args .points .now) (start .args .faces .now) (start .args .options) (buffers start) (fine start)
+    let start = c .before .before .before .before .before .before .before .before .before .before .before .before .before in
+    ready (start .args .points .now) (start .args .faces .now) (start .args .margin .now) (start .args .options) (buffers start) (fine start)
 
 finished-requires : tie.Need-finished-requires
 finished-requires c κs =
     let stage = c .before .before .before .before .before .before .before .before .before .before .before .before .before in
-    let start = stage .before .before .before .before .before .before .before .before .before .before .before .before .before in
+    let start = stage .before .before .before .before .before .before .before .before .before .before .before .before .before .before in
     let sized = fine start .sized in
     let a = start .args in
-    finish-asked (input start) (same-walk (a .points .now) (a .faces .now) (a .options) (buffers start) (stage .walked .ensures)) (sized .room-points) (sized .room-faces)
-    (ready (a .points .now) (a .faces .now) (a .options) (buffers start) (fine start) .working)
+    finish-asked (input start) (same-walk (a .points .now) (a .faces .now) (a .margin .now) (a .options) (buffers start) (stage .walked .ensures)) (sized .room-points) (sized .room-faces)
+    (ready (a .points .now) (a .faces .now) (a .margin .now) (a .options) (buffers start) (fine start) .working)
 
 same-length : tie.Need-same-length
 same-length c = c .before .before .before .before .before .before .before .before .before .out-points .given
@@ -57,9 +57,9 @@ returns : tie.Need-returns
 returns c =
     let stage = c .before .before .before .before .before .before .before .before .before .before in
     let before = stage .before .before .before .before .before .before .before .before .before .before .before .before .before .before in
-    let start = before .before .before .before .before .before .before .before .before .before .before .before .before .before in
+    let start = before .before .before .before .before .before .before .before .before .before .before .before .before .before .before in
     let a = start .args in
-    thinned-by (input start) (same-walk (a .points .now) (a .faces .now) (a .options) (buffers start) (before .walked .ensures)) (stage .finished .ensures) (start .pre)
+    thinned-by (input start) (same-walk (a .points .now) (a .faces .now) (a .margin .now) (a .options) (buffers start) (before .walked .ensures)) (stage .finished .ensures) (start .pre)
 
 pub admitted-spec : {M : Type 1} → statement M
 admitted-spec =

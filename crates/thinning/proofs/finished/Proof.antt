@@ -9,7 +9,7 @@ use Rattle.thinning.proofs.finished.Tie as tie
 answered-requires : tie.Need-answered-requires
 answered-requires c κs =
     let asked = c .before .before .before .before .before .before .before .before .before .pre in
-    (asked .tidy, (search needs, (asked .points-fit, (asked .faces-fit, (asked .borders-few, asked .folds-few)))))
+    (asked .tidy, (search needs, (asked .points-fit, (asked .faces-fit, (asked .fixed-few, asked .folds-few)))))
 
 clear-requires : tie.Need-clear-requires
 clear-requires c κs =

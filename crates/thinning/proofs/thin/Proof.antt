@@ -14,13 +14,13 @@ use Rattle.thinning.proofs.thin.Tie as tie
 
 -- the function's entry, from where the verdict is known; the buffers as they come, and the input
 abbrev entry : tie.After-verdict-of → tie.Start
-entry c = c .before .before .before .before .before .before .before .before .before
+entry c = c .before .before .before .before .before .before .before .before .before .before
 
 abbrev buffers : tie.Start → Lent
 buffers c = lent (c .args .out-points .now) (c .args .out-faces .now) (c .args .work-u32 .now) (c .args .work-f32 .now) (c .args .work-f64 .now)
 
 abbrev input : tie.Start → Input
-input c = inputOf (c .args .points .now) (c .args .faces .now) (c .args .options) (buffers c)
+input c = inputOf (c .args .points .now) (c .args .faces .now) (c .args .margin .now) (c .args .options) (buffers c)
 
 -- the verdict, where it is to copy
 is-copied : (c : tie.After-enum-told) → Copied ≡ verdictOf (input (entry (c .before .before)))
@@ -30,7 +30,7 @@ copied-requires : tie.Need-copied-requires
 copied-requires c κs =
     let known = c .before .before .before .before .before in
     let start = entry (known .before .before) in
-    measured (start .args .points .now) (start .args .faces .now) (start .args .options) (buffers start) (verdicts.copied (input start) (sym (is-copied known)) .sized)
+    measured (start .args .points .now) (start .args .faces .now) (start .args .margin .now) (start .args .options) (buffers start) (verdicts.copied (input start) (sym (is-copied known)) .sized)
 
 admitted-requires : tie.Need-admitted-requires
 admitted-requires c κs =

@@ -8,20 +8,20 @@ use Rattle.walking.proofs.laid_out.Tie as tie
 
 -- the place after each step, from the place after the next
 abbrev entry : tie.After-lay-faces → tie.Start
-entry c = c .before .before .before .before .before .before .before
+entry c = c .before .before .before .before .before .before .before .before
 
-abbrev laid : tie.After-mark-borders → tie.After-lay-faces
+abbrev laid : tie.After-mark-kinds → tie.After-lay-faces
 laid c = c .before .before .before .before
 
-abbrev bordered : tie.After-lay-points → tie.After-mark-borders
-bordered c = c .before .before .before .before
+abbrev kinded : tie.After-lay-points → tie.After-mark-kinds
+kinded c = c .before .before .before .before
 
 lay-quadrics-requires : tie.Need-lay-quadrics-requires
 lay-quadrics-requires c κs =
     let step = c .before .before .before .before .before in
-    let marked = bordered step in
+    let marked = kinded step in
     let start = entry (laid marked) in
-    quadrics-asked (start .pre) (laid marked .lay-faces .ensures) (marked .mark-borders .ensures) (step .lay-points .ensures)
+    quadrics-asked (start .pre) (laid marked .lay-faces .ensures) (marked .mark-kinds .ensures .0) (step .lay-points .ensures)
 
 same-length : tie.Need-same-length
 same-length c = let again = c .before .before .before .before .before .before .before .before .before .before .before in again .w2 .given ∙ again .before .before .before .before .w .given
@@ -35,10 +35,10 @@ same-length-3 c = c .before .q .given
 returns : tie.Need-returns
 returns c =
     let step = c .before .before .before .before .before .before .before .before in
-    let marked = bordered step in
+    let marked = kinded step in
     let start = entry (laid marked) in
-    laid-out (start .pre) (laid marked .lay-faces .ensures) (marked .mark-borders .ensures) (step .lay-points .ensures)
-    (c .before .before .lay-quadrics .ensures)
+    laid-out (start .pre) (laid marked .lay-faces .ensures) (marked .mark-kinds .ensures .0) (step .lay-points .ensures)
+    (c .before .before .lay-quadrics .ensures) (marked .mark-kinds .ensures .1)
 
 pub laid-out-spec : {M : Type 1} → statement M
 laid-out-spec =

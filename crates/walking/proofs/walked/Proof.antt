@@ -15,13 +15,13 @@ abbrev aimed : tie.After-laid-out → tie.After-target
 aimed c = c .before .before .before .before
 
 abbrev begun : tie.After-laid-out → tie.Start
-begun c = aimed c .before .before .before .before .before .before .before
+begun c = aimed c .before .before .before .before .before .before .before .before
 
 abbrev laid : tie.After-walk-by → tie.After-laid-out
 laid c = c .before .before .before .before .before .before .before .before .before .before
 
 abbrev input : tie.Start → Input
-input c = inputWalked (c .args .points .now) (c .args .faces .now) (c .args .options)
+input c = inputWalked (c .args .points .now) (c .args .faces .now) (c .args .margin .now) (c .args .options)
 
 -- the target is document 01's
 aim : (c : tie.After-laid-out) → aimed c .target .result ≡ targetOf (input (begun c))
@@ -29,10 +29,10 @@ unfolding targetOf
 aim c = aimed c .target .ensures
 
 cast-target : tie.Need-cast-target
-cast-target c = let start = c .before .before .before .before .before .before in few-fits (start .pre .working .u32s .faces-few)
+cast-target c = let start = c .before .before .before .before .before .before .before in few-fits (start .pre .working .u32s .faces-few)
 
 laid-out-requires : tie.Need-laid-out-requires
-laid-out-requires c κs = let start = c .before .before .before .before .before .before .before .before .before .before in start .pre
+laid-out-requires c κs = let start = c .before .before .before .before .before .before .before .before .before .before .before in start .pre
 
 walk-by-requires : tie.Need-walk-by-requires
 walk-by-requires c κs =

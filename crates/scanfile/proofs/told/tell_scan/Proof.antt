@@ -21,7 +21,7 @@ is-bad c = sym (c .scan2 .given .1) ∙ c .before .before .read-scan .ensures
 tell-good-requires : tie.Need-tell-good-requires
 tell-good-requires c κs =
     let g = good-file _ _ (sym (is-good (c .before .before))) in
-    record { there = omega (arith, g .whole); points-most = g .points-most; faces-most = g .faces-most }
+    record { there = omega (arith, g .there); points-most = g .points-most; faces-most = g .faces-most; margin-most = g .margin-most }
 
 returns : tie.Need-returns
 returns c =
