@@ -1,4 +1,4 @@
--- What document 01 promises, for every input.
+-- What documents 01 and 02 promise, for every input.
 -- the walk of an admitted input ends, in sound states, with eligible pairs open
 pub mod Admitted
 pub mod Ended
