@@ -1,14 +1,16 @@
 -- A fixed point, of the margin or the border, never moves: it is in no fold, carries after every step what it carried at the start, and is written with its
 -- input bits wherever it is still used.
 -- Assumes nothing.
-use Prim.Native.Nat.{ℕ, _<_}
+use Prim.Native.Nat.{ℕ, _*_, _<_}
 use native.Mathlib.Omega.{arith}
-use mathlib.Core.Path.{_≡_, refl, ap, _∙_}
+use mathlib.Core.Path.{_≡_, refl, sym, ap, _∙_}
 use mathlib.Core.Logic.{_≢_}
-use mathlib.Core.List.{[]}
+use mathlib.Core.List.{List, []}
 use mathlib.Core.Bool.{Bool, true, false, _&&_, _||_, cond}
 use mathlib.Mathlib.Data.Bool.Basic.{and-elim-right, and-intro, or-inl, or-inr}
 use lib.Dec.{ltb}
+use lib.ListN.{length}
+use lib.Ieee.{Float}
 use Rattle.lists.specs.Lists.{some}
 use Rattle.lists.proofs.TestLaws.{by-test, either-of}
 use Rattle.lists.proofs.BelowLaws.{getD-each}
@@ -24,6 +26,7 @@ use Rattle.walk.proofs.StepLaws.{answer-folded}
 use Rattle.walk.proofs.StillLaws.{held-apart, walk-still}
 use Rattle.walk.proofs.PlaceLaws.{place-below, getD-place}
 use Rattle.walk.proofs.RenumberLaws.{used-held}
+use Rattle.meaning.specs.declared.Answer.{Answer}
 use Rattle.meaning.specs.declared.Verdict.the-variants.{Admitted}
 use Rattle.meaning.specs.Input.{Input, pointsIn, pointAt}
 use Rattle.meaning.specs.Answers.{verdictOf}
@@ -31,7 +34,8 @@ use Rattle.meaning.specs.Arithmetic.{rulesOf}
 use Rattle.meaning.specs.Start.{inMargin, startKind, startVertex, startMesh}
 use Rattle.meaning.specs.Outcome.{rulesIn, startOf, targetOf, lastMesh, stuck, fixedIn, stuckAnswer, thinnedOutcome, Outcome, outcome, outcomeBy}
 use Rattle.meaning.proofs.MarginVerdictLaws.{named-below}
-use Rattle.meaning.proofs.PartsLaws.{parts-at}
+use Rattle.meaning.specs.Call.{Lent, Answered}
+use Rattle.meaning.proofs.PartsLaws.{parts-length, point-over, parts-at}
 use Rattle.promises.specs.Steps.{stateAt, answerAt, budgetOf, carried, givenFaces, fixedPoint}
 use Rattle.promises.specs.Written.{newNumber, writtenPoint}
 use Rattle.promises.proofs.Admitted.{passed}
@@ -140,6 +144,19 @@ module _ (i : Input) (admitted : verdictOf i ≡ Admitted) (x : ℕ) (is-fixed :
       ∙ ap (λ (y : ℕ). dataOf (rulesIn i) (lastMesh i) y .point) (getD-place 0 seen x here)
       ∙ fixed-point-same (budgetOf i)
 
+  -- and so it has in the buffer that the caller lent, by whichever engine the call was made
+  pub fixed-found : {before after : Lent} {r : Answer} → Answered i before after r → r .number ≡ 0 → some (holds x) (lastMesh i .faces) ≡ true →
+      pointAt (after .points) (newNumber i x) ≡ pointAt (i .points) x
+  fixed-found {before} left zero there =
+      let done : outcome i .answer .number ≡ 0 = ap (λ (r : Answer). r .number) (sym (left .answered)) ∙ zero in
+      let seen = used [] (lastMesh i .faces) in
+      let inside = place-below seen x (used-held (lastMesh i .faces) x there) in
+      let long : length (outcome i .points) ≡ 3 * length seen =
+      ap (λ (o : Outcome). length (o .points)) (thinned-is i admitted done) ∙ parts-length (rulesIn i) (lastMesh i) seen in
+      ap (λ (cells : List Float). pointAt cells (newNumber i x)) (left .points-out)
+      ∙ point-over (outcome i .points) (before .points) (newNumber i x) (omega arith)
+      ∙ fixed-written done there
+
 -- ---- in so many words of the margin, whatever preserve is
 
 module _ (i : Input) (admitted : verdictOf i ≡ Admitted) (x : ℕ) (named : inMargin (i .margin) x ≡ true) where
@@ -152,3 +169,7 @@ module _ (i : Input) (admitted : verdictOf i ≡ Admitted) (x : ℕ) (named : in
       outcome i .answer .number ≡ 0 → some (holds x) (lastMesh i .faces) ≡ true
       → writtenPoint i (newNumber i x) ≡ pointAt (i .points) x
   margin-written = fixed-written i admitted x (margin-fixed i x named)
+
+  pub margin-found : {before after : Lent} {r : Answer} → Answered i before after r → r .number ≡ 0 → some (holds x) (lastMesh i .faces) ≡ true →
+      pointAt (after .points) (newNumber i x) ≡ pointAt (i .points) x
+  margin-found = fixed-found i admitted x (margin-fixed i x named)

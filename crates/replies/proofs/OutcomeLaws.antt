@@ -15,6 +15,7 @@ use Rattle.meaning.specs.declared.Verdict.{Verdict}
 use Rattle.meaning.specs.declared.Verdict.the-variants.{Refused, Copied, Admitted}
 use Rattle.meaning.specs.Input.{Input}
 use Rattle.meaning.specs.Answers.{verdictOf}
+use Rattle.meaning.proofs.PartsLaws.{parts-length}
 use Rattle.checks.proofs.VerdictLaws as verdicts
 use Rattle.meaning.specs.Outcome.{Outcome, rulesIn, lastMesh, partsIn, stuck, fixedIn, refusal, stuckAnswer, thinnedOutcome, outcomeBy, outcome}
 
@@ -23,11 +24,6 @@ pub record Counted (o : Outcome) : Type 0 where
   pub faces : length (o .faces) ≡ 3 * o .answer .faces
 
 -- ---- a mesh that was thinned
-
-parts-length : (rules : Rules Vertex) (m : Mesh Vertex) (xs : List ℕ) → length (partsIn rules m xs) ≡ 3 * length xs
-unfolding partsIn
-parts-length rules m [] = refl
-parts-length rules m (x ∷ xs) = omega (arith, parts-length rules m xs)
 
 pub thinned-counted : (i : Input) → Counted (thinnedOutcome i)
 thinned-counted i =

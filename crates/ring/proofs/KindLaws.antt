@@ -36,11 +36,9 @@ use Rattle.mesh.proofs.TidyLaws.{tidy-but, tidy-again}
 use Rattle.mesh.proofs.AroundLaws.{live-faces-but}
 use Rattle.ring.specs.Contracts.Kinds.{NamesPoints, Margined}
 
--- a kind that is written leaves the memory tidy
-kind-tidy : {v f x : ℕ} (k : ℕ) {w : List ℕ} → x < v → Tidy v f w → Tidy v f (set w (kindsFrom v f + x) k)
-kind-tidy {v} {f} {x} k {w} l t =
-    let but = but-set (kindsFrom v f) (marksFrom v f) w (kindsFrom v f + x) k (omega arith) (omega arith) in
-    tidy-again (omega arith) but (λ u m. but .over (marksFrom v f + u) (omega arith) ∙ t .unmarked u m) t
+-- where kinds alone have changed the memory is as tidy as it was
+kinds-tidy : {v f : ℕ} {w w' : List ℕ} → But (kindsFrom v f) (marksFrom v f) w w' → Tidy v f w → Tidy v f w'
+kinds-tidy {v} {f} but t = tidy-again (omega arith) but (λ u m. but .over (marksFrom v f + u) (omega arith) ∙ t .unmarked u m) t
 
 -- a point's number fits
 pub point-fits : {x v : ℕ} → x < v → v ≤ 65536 → Fits w64 x
@@ -81,14 +79,12 @@ module _ {v f : ℕ} {preserve : Bool} {w₀ w : List ℕ} {x : ℕ} (h : Kinds 
 
     pub kinds-more : {w₂ : List ℕ} → w₂ ≡ set w₁ (kindsFrom v f + x) n → Kinds v f preserve w₀ w₂ (x + 1)
     kinds-more wrote =
+        let but₂ = but-set (kindsFrom v f) (marksFrom v f) w₁ (kindsFrom v f + x) n (omega arith) (omega arith) in
         rw wrote
         record {
           most = omega arith;
-          but =
-              but-then (h .but)
-              (but-then (but-widen (omega arith) (omega arith) but₁)
-              (but-widen (omega arith) (omega arith) (but-set (kindsFrom v f) (marksFrom v f) w₁ (kindsFrom v f + x) n (omega arith) (omega arith))));
-          tidy = kind-tidy n l (tidy-but (omega arith) but₁ (h .tidy));
+          but = but-then (h .but) (but-then (but-widen (omega arith) (omega arith) but₁) (but-widen (omega arith) (omega arith) but₂));
+          tidy = kinds-tidy but₂ (tidy-but (omega arith) but₁ (h .tidy));
           kinds =
               below-more (λ y. kind v f (set w₁ (kindsFrom v f + x) n) y ≡ kindNumber (startKind v (liveFaces f w₀) preserve [] y)) x
               (λ y m.
@@ -200,10 +196,9 @@ margin-wins v faces preserve margin x = by-test (inMargin margin x) (λ t. rw t)
 module _ {v f : ℕ} {preserve : Bool} {margin w₀ w₁ w₂ : List ℕ} (bordered : Kinded v f preserve [] w₀ w₁) (margined : Margined v f margin w₁ w₂) where
   pub kinds-with-margin : Kinded v f preserve margin w₀ w₂
   kinds-with-margin =
-      let but = margined .but in
       record {
-        but = but-then (bordered .but) (but-widen (omega arith) (omega arith) but);
-        tidy = tidy-again (omega arith) but (λ u m. but .over (marksFrom v f + u) (omega arith) ∙ bordered .tidy .unmarked u m) (bordered .tidy);
+        but = but-then (bordered .but) (but-widen (omega arith) (omega arith) (margined .but));
+        tidy = kinds-tidy (margined .but) (bordered .tidy);
         kinds = λ x l. margined .kinds x l ∙ rw (bordered .kinds x l) (margin-wins v (liveFaces f w₀) preserve margin x);
       }
 
