@@ -1,4 +1,4 @@
--- What a refusal says: its number is between 1 and 12 and its place fits u32; 7 names the first bad coordinate, 8 and 9 the lowest bad face, and 12 the first
+-- What a refusal says: its number is one of 1 to 9, or 12, and its place fits u32; 7 names the first bad coordinate, 8 and 9 the lowest bad face, and 12 the first
 -- bad entry of the margin.
 use Prim.Native.Nat.{ℕ, _/_, _≤_, _<_}
 use native.Mathlib.Omega.{arith}
@@ -87,26 +87,26 @@ entry-few v margin {p} f =
     good-few v margin p (λ j h. rw (getD-below (length margin) j (omega arith)) at (f .none-before j h))
 
 -- a number whose place is 0, or a later one
-from-zero : (test : Bool) (m : ℕ) (later : Verdict) {n p : ℕ} → 1 ≤ m → m ≤ 12
+from-zero : (test : Bool) (m : ℕ) (later : Verdict) {n p : ℕ} → 1 ≤ m → m ≤ 9
     → (test ≡ false → later ≡ Refused n p → RefusalFits n p) → cond test (Refused m 0) later ≡ Refused n p → RefusalFits n p
 from-zero false m later a b after e = after refl e
 from-zero true m later {n} {p} a b after e =
     let number : m ≡ n = cc in
     let place : 0 ≡ p = cc in
-    record { number-least = omega arith; number-most = omega arith; place-fits = omega arith }
+    record { number-least = omega arith; number-known = inl (omega arith); place-fits = omega arith }
 
 -- the numbers 7 to 9 and 12
 contents-fit : (i : Input) {n p : ℕ} → large (pointsIn i) (facesIn i) ≡ false → contentsVerdict (i .points) (i .faces) (i .margin) (i .options .ratio) (i .bound) ≡ Refused n p → RefusalFits n p
 contents-fit i small e =
     let limits = not-large (pointsIn i) (facesIn i) small in
     ⊎-elim
-    (λ s. record { number-least = omega (arith, s .0); number-most = omega (arith, s .0); place-fits = omega (arith, s .1 .within) })
+    (λ s. record { number-least = omega (arith, s .0); number-known = inl (omega (arith, s .0)); place-fits = omega (arith, s .1 .within) })
     (⊎-elim
     (λ l.
     let h = eight-or-nine l in
-    record { number-least = omega arith; number-most = omega arith; place-fits = omega (arith, l .lowest .within, length-faces (facesIn i) (i .faces)) })
+    record { number-least = omega arith; number-known = inl (omega arith); place-fits = omega (arith, l .lowest .within, length-faces (facesIn i) (i .faces)) })
     (λ m.
-    record { number-least = omega (arith, m .0); number-most = omega (arith, m .0); place-fits = omega (arith, entry-few (pointsIn i) (i .margin) (m .1)) }))
+    record { number-least = omega (arith, m .0); number-known = inr (m .0); place-fits = omega (arith, entry-few (pointsIn i) (i .margin) (m .1)) }))
     (contents-refused (i .points) (i .faces) (i .margin) (i .options .ratio) (i .bound) e)
 
 -- a refusal's number is one of the table, and its place fits u32

@@ -1,6 +1,7 @@
 -- What is known of an input once its verdict is known. proofs/VerdictLaws.antt and RefusalLaws.antt show it from the verdict.
 use Prim.Native.Nat.{ℕ, _+_, _*_, _^_, _≤_, _<_}
 use mathlib.Core.Path.{_≡_}
+use mathlib.Core.Logic.{_⊎_}
 use mathlib.Core.List.{List}
 use mathlib.Core.Bool.{Bool, true, false, not, cond}
 use lib.Dec.{T}
@@ -65,8 +66,8 @@ pub record LowestBad (v : ℕ) (faces : List Face) (n p : ℕ) : Type 0 where
   pub lowest : FirstAt (improper v) noFace faces p
   pub number : n ≡ cond (outside v (getD faces p noFace)) 8 9
 
--- a number from 1 to 12, and a place that fits u32
+-- a number from 1 to 9, or 12, and a place that fits u32
 pub record RefusalFits (n p : ℕ) : Type 0 where
   pub number-least : 1 ≤ n
-  pub number-most : n ≤ 12
+  pub number-known : (n ≤ 9) ⊎ (n ≡ 12)
   pub place-fits : p < 2 ^ 32

@@ -10,7 +10,6 @@ use mathlib.Core.List.{List}
 use lib.Pow.{pow-add}
 use lib.ListN.{length}
 use lib.Ieee.{Float}
-use lib.Ieee.Scale.{finite}
 use Rattle.lists.proofs.TestLaws.{flag-true}
 use Rattle.lists.proofs.SumLaws.{witness}
 use Rattle.placement.specs.declared.Limit.{Limit}

@@ -3,12 +3,10 @@
 use Prim.Native.Nat.{ℕ, _*_}
 use native.Mathlib.Omega.{arith}
 use mathlib.Core.Path.{_≡_, refl}
-use mathlib.Core.List.{List, [], _∷_}
+use mathlib.Core.List.{[]}
 use mathlib.Core.Bool.{Bool, true, false, cond}
 use lib.Dec.{ltb}
 use lib.ListN.{length}
-use Rattle.placement.specs.declared.pair.Vertex.{Vertex}
-use Rattle.walk.specs.Faces.{Rules, Mesh}
 use Rattle.walk.specs.Output.{used, renumbered}
 use Rattle.output.proofs.WritingLaws.{length-numbers, length-renumbered}
 use Rattle.meaning.specs.declared.Verdict.{Verdict}
@@ -17,7 +15,7 @@ use Rattle.meaning.specs.Input.{Input}
 use Rattle.meaning.specs.Answers.{verdictOf}
 use Rattle.meaning.proofs.PartsLaws.{parts-length}
 use Rattle.checks.proofs.VerdictLaws as verdicts
-use Rattle.meaning.specs.Outcome.{Outcome, rulesIn, lastMesh, partsIn, stuck, fixedIn, refusal, stuckAnswer, thinnedOutcome, outcomeBy, outcome}
+use Rattle.meaning.specs.Outcome.{Outcome, rulesIn, lastMesh, stuck, fixedIn, refusal, stuckAnswer, thinnedOutcome, outcomeBy, outcome}
 
 pub record Counted (o : Outcome) : Type 0 where
   pub points : length (o .points) ≡ 3 * o .answer .points

@@ -36,7 +36,7 @@ use Rattle.replies.specs.declared.Wanted.the-variants.{Listing, File}
 use Rattle.replies.specs.declared.Reply.{Reply}
 use Rattle.replies.specs.declared.Reply.the-variants.{Mesh, Refusal}
 use Rattle.replies.specs.Replies.{Told, mesh, refusal, toldBytes, toldBy, answerTold, outcomeTold, headOptions, callOf}
-use Rattle.replies.specs.Contracts.{sizeIn, sizeOf, replyIn, IsScan, Replied, Small, Shown}
+use Rattle.replies.specs.Contracts.{sizeIn, sizeOf, replyIn, Replied, Small, Shown}
 use Rattle.replies.proofs.OutcomeLaws.{Counted}
 
 -- ---- replies from what the libraries leave

@@ -1,9 +1,6 @@
 -- What the program makes of any bytes that it reads: the listing or the file of the thinned mesh, or a refusal.
-use Prim.Native.Nat.{ℕ, zero, suc, _*_, _≤_}
-use mathlib.Core.Path.{_≡_}
-use mathlib.Core.Logic.{_⊎_}
+use Prim.Native.Nat.{ℕ, zero, suc}
 use mathlib.Core.List.{List, _++_}
-use lib.ListN.{length, take}
 use lib.Ieee.{Float}
 use Rattle.meaning.specs.Input.{Input}
 use Rattle.meaning.specs.declared.Answer.{Answer}

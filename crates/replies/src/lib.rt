@@ -2,7 +2,7 @@
 // A file has at most 128 points, 256 faces and 128 margin points, and no buffer is larger than 64 KiB.
 ghost use mathlib.Core.Path.{_≡_};
 ghost use mathlib.Core.Logic.{_⊎_};
-ghost use Prim.Native.Nat.{_+_, _*_, _≤_};
+ghost use Prim.Native.Nat.{_*_, _≤_};
 ghost use lib.ListN.{length, take};
 ghost use Rattle.scanfile.specs.declared.Scan.the-variants.{Good};
 ghost use Rattle.scanfile.specs.Scans.{scanOf};

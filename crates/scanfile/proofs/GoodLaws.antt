@@ -5,7 +5,7 @@ use native.Mathlib.Omega.{arith}
 use mathlib.Core.Path.{_≡_, refl, sym, ap, _∙_}
 use mathlib.Core.Logic.{_⊎_, inl, inr}
 use mathlib.Core.List.{List}
-use mathlib.Core.Bool.{Bool, true, false, not, _||_, cond}
+use mathlib.Core.Bool.{Bool, true, false, not, cond}
 use lib.Dec.{ltb, eqb}
 use lib.ListN.{length}
 use borrow.Author.Tests.{ltb-false, eqb-true, le-ltb}
@@ -132,12 +132,9 @@ good-file bytes h e =
       flags-known = ltb-false 3 (flagsIn bytes) (o .1);
     }
 
--- a length that 23 lets through
-by-twelve : {size : ℕ} (n : ℕ) → size ≡ 12 * n → not (eqb (size % 12) 0) ≡ false
-by-twelve {size} n e = let none : size % 12 ≡ 0 = omega arith in rw none refl
-
-by-four : {size : ℕ} (n : ℕ) → size ≡ 4 * n → not (eqb (size % 4) 0) ≡ false
-by-four {size} n e = let none : size % 4 ≡ 0 = omega arith in rw none refl
+-- a length that leaves no rest is one that 23 lets through
+no-rest : (rest : ℕ) → rest ≡ 0 → not (eqb rest 0) ≡ false
+no-rest rest none = rw none refl
 
 module _ {bytes : List ℕ} {h : Head} (g : GoodFile bytes h) where
   -- where the third record is, and how long
@@ -177,9 +174,9 @@ module _ {bytes : List ℕ} {h : Head} (g : GoodFile bytes h) where
       let first : GoodRecord bytes 1 0 =
       record { kind-right = g .first-kind; size-right = rw (g .first-size) refl; size-most = omega arith; room = omega arith } in
       let second : GoodRecord bytes 2 secondAt =
-      record { kind-right = g .second-kind; size-right = by-twelve (h .points) (g .second-size); size-most = omega arith; room = omega arith } in
+      record { kind-right = g .second-kind; size-right = no-rest (sizeAt bytes secondAt % 12) (omega (arith, g .second-size)); size-most = omega arith; room = omega arith } in
       let third : GoodRecord bytes 3 (thirdAt bytes) =
-      record { kind-right = kind; size-right = by-twelve (h .faces) size; size-most = omega arith; room = omega arith } in
+      record { kind-right = kind; size-right = no-rest (sizeAt bytes (thirdAt bytes) % 12) (omega arith); size-most = omega arith; room = omega arith } in
       record {
         first = passes bytes 1 0 first;
         options = rw (known-unit (unitIn bytes) unit, le-ltb 3 (flagsIn bytes) (g .flags-known)) refl;
@@ -199,7 +196,7 @@ module _ {bytes : List ℕ} {h : Head} (g : GoodFile bytes h) where
       let size : sizeAt bytes (fourthAt bytes) ≡ 4 * h .margin = rw fourth-place (e .fourth-size) in
       let here = fourth-place in
       let fourth : GoodRecord bytes 4 (fourthAt bytes) =
-      record { kind-right = rw here (e .fourth-kind); size-right = by-four (h .margin) size; size-most = omega arith; room = omega arith } in
+      record { kind-right = rw here (e .fourth-kind); size-right = no-rest (sizeAt bytes (fourthAt bytes) % 4) (omega arith); size-most = omega arith; room = omega arith } in
       all-good bytes (nextAt bytes (fourthAt bytes)) end (omega arith) h (g .head-is) ∙ margin-passed bytes marks (passes bytes 4 (fourthAt bytes) fourth)
 
 pub file-good : (bytes : List ℕ) (h : Head) → GoodFile bytes h → scanOf bytes ≡ Good h

@@ -1,14 +1,14 @@
 -- Reading what was written gives back the unit, the points and the faces; and when writing what was read gives the same bytes.
 -- Assumes nothing.
-use Prim.Native.Nat.{ℕ, zero, suc, _+_, _*_, _/_, _≤_, _<_}
+use Prim.Native.Nat.{ℕ, suc, _+_, _*_, _/_, _≤_, _<_}
 use native.Mathlib.Omega.{arith}
 use mathlib.Core.Path.{_≡_, refl, sym, ap, _∙_}
 use mathlib.Core.List.{List, [], _∷_, map}
-use mathlib.Core.Bool.{Bool, true, false, not}
+use mathlib.Core.Bool.{Bool, true, false}
 use lib.Dec.{T}
-use lib.ListN.{length, getD, take, drop, length-map, List·getD-map}
+use lib.ListN.{length, getD, take, drop, length-map}
 use lib.Seq.{take-at, drop-at}
-use lib.Ieee.{Float, nan, inf, fin, Format, binary32, fits, isNan, ofBits, toBits}
+use lib.Ieee.{Float, nan, binary32, fits, isNan, ofBits, toBits}
 use lib.Ieee.Bits.{ofBits-toBits, toBits-ofBits}
 use Rattle.lists.proofs.OverlayLaws.{length-over}
 use Rattle.records.specs.Words.{fourBytes, numbersFrom}
@@ -23,9 +23,9 @@ use Rattle.scanfile.specs.Files.{Writable, contentsOf, fileOf}
 use Rattle.scanfile.proofs.GoodLaws.{good-file, not-marked}
 use Rattle.scanfile.proofs.FileLaws.{good-written, written-length, found, written-good, written-points, written-faces}
 use Rattle.scanwriter.specs.declared.Writing.the-variants.{Bytes}
-use Rattle.scanwriter.specs.Written.{scanContents, scanBytes, writingOf, bufferAfter, ScanWritten}
+use Rattle.scanwriter.specs.Written.{scanContents, scanBytes, bufferAfter, ScanWritten}
 use Rattle.scanwriter.specs.Contracts.{ScanFits}
-use Rattle.scanwriter.specs.Back.{writtenHead, ReadBack, writtenAgain, ZeroOptions, NoMargin, OneNan}
+use Rattle.scanwriter.specs.Back.{ReadBack, writtenAgain, ZeroOptions, NoMargin, OneNan}
 use Rattle.scanwriter.proofs.WritingLaws as writing
 
 -- ---- what fits is a file's contents

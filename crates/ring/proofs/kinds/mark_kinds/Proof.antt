@@ -1,6 +1,5 @@
 -- `ring::kinds::mark_kinds` meets its contract: the kinds without a margin, the margin over them, and the count of both.
 -- Assumes nothing.
-use mathlib.Core.Path.{_∙_}
 use borrow.Author.Needs.{needs}
 use Rattle.ring.proofs.KindLaws.{kinds-with-margin, fixed-counted}
 use Rattle.ring.proofs.kinds.mark_kinds.Statement.{statement}
