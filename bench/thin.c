@@ -33,8 +33,8 @@ int main(int words, char **word) {
     double *q = room(HJOLTRAVAN_WORK_F64(v, f) * 8);
     struct timespec start, end;
     clock_gettime(CLOCK_MONOTONIC, &start);
-    hjoltravan_thin(points, 3 * v, faces, 3 * f, NULL, 0, ratio, false, false, 0, out_points, 3 * v, out_faces, 3 * f, u,
-                    HJOLTRAVAN_WORK_U32(v, f), p, HJOLTRAVAN_WORK_F32(v, f), q, HJOLTRAVAN_WORK_F64(v, f), answer);
+    hjoltravan_thin(points, 3 * v, faces, 3 * f, NULL, 0, HJOLTRAVAN_MILLIMETRE, ratio, false, false, 0, out_points, 3 * v,
+                    out_faces, 3 * f, u, HJOLTRAVAN_WORK_U32(v, f), p, HJOLTRAVAN_WORK_F32(v, f), q, HJOLTRAVAN_WORK_F64(v, f), answer);
     clock_gettime(CLOCK_MONOTONIC, &end);
     double took = (end.tv_sec - start.tv_sec) * 1e3 + (end.tv_nsec - start.tv_nsec) * 1e-6;
     printf("%zu faces, ratio %g: answer %u, %u faces left, %u folds, %.1f ms\n", f, ratio, answer[0], answer[3], answer[4], took);

@@ -19,7 +19,7 @@ int main(void) {
     if (!work_u32 || !work_f32 || !work_f64) return 1;
 
     uint32_t answer[5];
-    hjoltravan_thin(points, 3 * V, faces, 3 * F, margin, HELD, 0.5f, false, false, 0.0f,
+    hjoltravan_thin(points, 3 * V, faces, 3 * F, margin, HELD, HJOLTRAVAN_MILLIMETRE, 0.5f, false, false, 0.0f,
                     out_points, HJOLTRAVAN_OUT_POINTS(V, F), out_faces, HJOLTRAVAN_OUT_FACES(V, F),
                     work_u32, HJOLTRAVAN_WORK_U32(V, F), work_f32, HJOLTRAVAN_WORK_F32(V, F),
                     work_f64, HJOLTRAVAN_WORK_F64(V, F), answer);

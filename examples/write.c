@@ -17,18 +17,20 @@ int main(int count, char **names)
     static double work_f64[HJOLTRAVAN_WORK_F64(V, F)];
     uint32_t thinned[5];
 
-    /* take half of the faces away; no margin, preserve nothing, no length limit */
-    hjoltravan_thin(points, 3 * V, faces, 3 * F, NULL, 0, 0.5f, false, false, 0.0f, out_points, 3 * V, out_faces, 3 * F, work_u32,
-                    HJOLTRAVAN_WORK_U32(V, F), work_f32, HJOLTRAVAN_WORK_F32(V, F), work_f64, HJOLTRAVAN_WORK_F64(V, F), thinned);
+    /* in millimetres, take half of the faces away; no margin, preserve nothing, no length limit */
+    const uint32_t unit = HJOLTRAVAN_MILLIMETRE;
+    hjoltravan_thin(points, 3 * V, faces, 3 * F, NULL, 0, unit, 0.5f, false, false, 0.0f, out_points, 3 * V, out_faces, 3 * F,
+                    work_u32, HJOLTRAVAN_WORK_U32(V, F), work_f32, HJOLTRAVAN_WORK_F32(V, F),
+                    work_f64, HJOLTRAVAN_WORK_F64(V, F), thinned);
     if (thinned[0] != 0) {
         fprintf(stderr, "thinning was refused by %u, place %u\n", thinned[0], thinned[1]);
         return 1;
     }
 
-    /* the unit is 1, millimetre; the thinned mesh is at the beginning of the outputs */
+    /* the thinned mesh is at the beginning of the outputs */
     static uint8_t file[HJOLTRAVAN_FILE_BYTES(V, F)];
     uint32_t written[3];
-    hjoltravan_write_scan(1, out_points, 3 * thinned[2], out_faces, 3 * thinned[3], file, sizeof file, written);
+    hjoltravan_write_scan(unit, out_points, 3 * thinned[2], out_faces, 3 * thinned[3], file, sizeof file, written);
     if (written[0] != 0) {
         fprintf(stderr, "writing was refused by %u, place %u\n", written[0], written[1]);
         return 1;

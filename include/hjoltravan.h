@@ -16,6 +16,10 @@ extern "C" {
 #define HJOLTRAVAN_MOST_POINTS 65536
 #define HJOLTRAVAN_MOST_FACES 131072
 
+/* The units. Each has its bound on a coordinate's size: 1,024 in millimetres, 1,048,576 in micrometres. */
+#define HJOLTRAVAN_MILLIMETRE 1
+#define HJOLTRAVAN_MICROMETRE 2
+
 /* How much memory to lend for V points and F faces, in elements. Longer is fine; the rest is never written. */
 #define HJOLTRAVAN_OUT_POINTS(V, F) (3 * (size_t)(V))
 #define HJOLTRAVAN_OUT_FACES(V, F) (3 * (size_t)(F))
@@ -30,6 +34,7 @@ extern "C" {
    faces, faces_len     the three point numbers of each triangle, from 0, 3F numbers
    margin, margin_len   the numbers of the points that must not move, from 0, each above the one before; where there are
                         none the length is 0 and the pointer may be NULL
+   unit                 what the coordinates are in: 1 millimetre, 2 micrometre
    ratio                how much to take away: 0 nothing (the mesh is copied), 1 as much as can be
    preserve             whether points on an open border stay as they are
    limited, limit       whether only pairs of points at most this far apart may be joined; limit isn't looked at without it
@@ -48,7 +53,9 @@ extern "C" {
     4  no points or no faces
     5  the ratio is NaN, below 0 or above 1
     6  the limit is NaN
-    7  a coordinate isn't finite or its size is above 1,048,576; place: the first such coordinate's number
+   24  the unit is neither 1 nor 2
+    7  a coordinate isn't finite or its size is above the unit's bound (1,024 in unit 1, 1,048,576 in unit 2); place: the
+       first such coordinate's number
     8  a face names a point that there isn't; place: that face
     9  a face names one point twice; place: that face (the lowest bad face counts, and within it 8 comes first)
    12  the margin names a point that there isn't, or a point not above the one before; place: the first such entry
@@ -60,17 +67,19 @@ extern "C" {
    At ratio 0 neither faces nor margin are looked at (8, 9 and 12). A fixed point isn't moved or joined to another, and no
    other to it: where the thinned mesh still uses it, it has the bits it came with.
 
-   A refusal (any number but 0) changes neither output. Work memory is untouched on 1 to 9 and 12, and its stated part is
-   all zero after 0, 10 and 11. */
+   A refusal (any number but 0) changes neither output. Work memory is untouched on 1 to 9, 12 and 24, and its stated part
+   is all zero after 0, 10 and 11. */
 void hjoltravan_thin(const float *points, size_t points_len, const uint32_t *faces, size_t faces_len,
-                     const uint32_t *margin, size_t margin_len, float ratio, bool preserve, bool limited, float limit,
+                     const uint32_t *margin, size_t margin_len,
+                     uint32_t unit, float ratio, bool preserve, bool limited, float limit,
                      float *out_points, size_t out_points_len, uint32_t *out_faces, size_t out_faces_len,
                      uint32_t *work_u32, size_t work_u32_len, float *work_f32, size_t work_f32_len,
                      double *work_f64, size_t work_f64_len, uint32_t answer[5]);
 
 /* The same by the plain walk, which works every cost out anew at each step: the meaning of the one above, and slow. */
 void hjoltravan_thin_plain(const float *points, size_t points_len, const uint32_t *faces, size_t faces_len,
-                           const uint32_t *margin, size_t margin_len, float ratio, bool preserve, bool limited, float limit,
+                           const uint32_t *margin, size_t margin_len,
+                           uint32_t unit, float ratio, bool preserve, bool limited, float limit,
                            float *out_points, size_t out_points_len, uint32_t *out_faces, size_t out_faces_len,
                            uint32_t *work_u32, size_t work_u32_len, float *work_f32, size_t work_f32_len,
                            double *work_f64, size_t work_f64_len, uint32_t answer[5]);
@@ -83,7 +92,8 @@ void hjoltravan_thin_plain(const float *points, size_t points_len, const uint32_
    that is joined to it. As many numbers are written as there is room for, at most twice the folds made; the rest is never
    written, and on a refusal nothing is. Like the other lent parts folds may not overlap any other part. */
 void hjoltravan_thin_folds(const float *points, size_t points_len, const uint32_t *faces, size_t faces_len,
-                           const uint32_t *margin, size_t margin_len, float ratio, bool preserve, bool limited, float limit,
+                           const uint32_t *margin, size_t margin_len,
+                           uint32_t unit, float ratio, bool preserve, bool limited, float limit,
                            float *out_points, size_t out_points_len, uint32_t *out_faces, size_t out_faces_len,
                            uint32_t *work_u32, size_t work_u32_len, float *work_f32, size_t work_f32_len,
                            double *work_f64, size_t work_f64_len, uint32_t *folds, size_t folds_len, uint32_t answer[5]);

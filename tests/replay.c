@@ -1,6 +1,7 @@
 /* Runs the library on stored cases and compares its answers with the stored
    ones: the five numbers, the bits of the outputs, the list of folds, and every
-   other cell that was lent. By the folds alone it sees that margin points stay.
+   other cell that was lent. By the folds alone it sees that margin points stay,
+   and by the unit alone that no coordinate comes out beyond its bound.
 
        replay [MOST_FACES [times]] < cases
 
@@ -16,7 +17,7 @@
 #include <string.h>
 #include <time.h>
 
-enum { GUARD = 16, MOST_FAMILIES = 64, MAGIC = 0x32636a68 };
+enum { GUARD = 16, MOST_FAMILIES = 64, MAGIC = 0x33636a68 };
 
 static void stop(const char *why)
 {
@@ -108,7 +109,7 @@ static void fill(struct lent *lent, const uint32_t *list, size_t stored)
 
 /* ---- Cases ---- */
 
-enum { FAMILY, RATIO, OPTIONS, LIMIT, POINTS_LEN, FACES_LEN, MARGIN_LEN,
+enum { FAMILY, UNIT, RATIO, OPTIONS, LIMIT, POINTS_LEN, FACES_LEN, MARGIN_LEN,
        OUT_POINTS_LEN, OUT_FACES_LEN, WORK_U32_LEN, WORK_F32_LEN, WORK_F64_LEN,
        NUMBER, PLACE, POINTS_OUT, FACES_OUT, FOLDS,
        POINTS, FACES, MARGIN, OUT_POINTS, OUT_FACES, FOLD_LIST, HEAD };
@@ -164,7 +165,7 @@ static const uint32_t *list_of(const struct one *c, int which)
 static bool refused(const struct one *c)
 {
     uint32_t number = c->word[NUMBER];
-    return (number >= 1 && number <= 9) || number == 12;
+    return (number >= 1 && number <= 9) || number == 12 || number == 24;
 }
 
 static float float_of(uint32_t bits)
@@ -183,12 +184,12 @@ static struct lent points, faces, margin, out_points, out_faces, work_u32, work_
 #ifdef HJOLTRAVAN_FOLDS
 /* The entry that tells its folds, called like the others. */
 static void thin_folds(const float *p, size_t p_len, const uint32_t *f, size_t f_len,
-                       const uint32_t *m, size_t m_len, float ratio, bool preserve, bool limited, float limit,
+                       const uint32_t *m, size_t m_len, uint32_t unit, float ratio, bool preserve, bool limited, float limit,
                        float *out_p, size_t out_p_len, uint32_t *out_f, size_t out_f_len,
                        uint32_t *w_u32, size_t w_u32_len, float *w_f32, size_t w_f32_len,
                        double *w_f64, size_t w_f64_len, uint32_t *five)
 {
-    hjoltravan_thin_folds(p, p_len, f, f_len, m, m_len, ratio, preserve, limited, limit, out_p, out_p_len, out_f, out_f_len,
+    hjoltravan_thin_folds(p, p_len, f, f_len, m, m_len, unit, ratio, preserve, limited, limit, out_p, out_p_len, out_f, out_f_len,
                           w_u32, w_u32_len, w_f32, w_f32_len, w_f64, w_f64_len, start(&folds), folds.length, five);
 }
 #endif
@@ -245,7 +246,7 @@ static void call(thin_function *thin, const struct one *c)
     double began = now();
     thin((float *)start(&points), points.length, start(&faces), faces.length,
          start(&margin), margin.length,
-         float_of(w[RATIO]), w[OPTIONS] & 1, w[OPTIONS] >> 1 & 1, float_of(w[LIMIT]),
+         w[UNIT], float_of(w[RATIO]), w[OPTIONS] & 1, w[OPTIONS] >> 1 & 1, float_of(w[LIMIT]),
          (float *)start(&out_points), out_points.length,
          start(&out_faces), out_faces.length,
          start(&work_u32), work_u32.length, (float *)start(&work_f32), work_f32.length,
@@ -326,6 +327,17 @@ static bool margin_stays(const struct one *c)
     return out == end;
 }
 
+/* Whether every coordinate that came out is at most the unit's bound in size,
+   which is a matter of its bits without the sign. */
+static bool within_bound(const struct one *c)
+{
+    uint32_t bound = c->word[UNIT] == HJOLTRAVAN_MILLIMETRE ? 0x44800000 : 0x49800000;
+    for (size_t i = 0; i < 3 * (size_t)c->word[POINTS_OUT]; i++)
+        if ((start(&out_points)[i] & 0x7fffffff) > bound)
+            return false;
+    return true;
+}
+
 /* The first thing that differs, or null. */
 static const char *difference(const struct one *c, bool tells_folds)
 {
@@ -366,6 +378,8 @@ static const char *difference(const struct one *c, bool tells_folds)
         return "input margin";
     if (!untouched_from(&answer, 5))
         return "cells beside the answer";
+    if (done && !within_bound(c))
+        return "coordinates beyond the bound";
     /* At ratio zero neither faces nor margin are looked at. */
     if (done && float_of(w[RATIO]) != 0 && !margin_stays(c))
         return "points that must not move";
@@ -391,8 +405,8 @@ static void print_case(const struct one *c, const char *what, const char *entry,
 {
     const uint32_t *w = c->word;
     printf("case %lu, by %s: %s\n", c->number, entry, what);
-    printf("ratio %08x preserve %u limited %u limit %08x\n",
-           w[RATIO], w[OPTIONS] & 1, w[OPTIONS] >> 1 & 1, w[LIMIT]);
+    printf("unit %u ratio %08x preserve %u limited %u limit %08x\n",
+           w[UNIT], w[RATIO], w[OPTIONS] & 1, w[OPTIONS] >> 1 & 1, w[LIMIT]);
     printf("lent %u %u %u %u %u\n", w[OUT_POINTS_LEN], w[OUT_FACES_LEN],
            w[WORK_U32_LEN], w[WORK_F32_LEN], w[WORK_F64_LEN]);
     printf("expected answer %u place %u points %u faces %u folds %u\n",
@@ -488,7 +502,7 @@ int main(int count, char **argument)
             stop("the file is cut short");
 
     unsigned long cases[MOST_FAMILIES] = { 0 }, wrong[MOST_FAMILIES] = { 0 };
-    unsigned long all = 0, all_wrong = 0, by_plain = 0, told = 0, held = 0;
+    unsigned long all = 0, all_wrong = 0, by_plain = 0, told = 0, held = 0, millimetres = 0, micrometres = 0;
     for (size_t space = 0; read_case(&c, &space);) {
         uint32_t family = c.word[FAMILY];
         if (family >= head[1])
@@ -500,6 +514,8 @@ int main(int count, char **argument)
 #endif
         if (c.word[FOLDS])
             held += c.word[MARGIN_LEN];
+        millimetres += c.word[UNIT] == HJOLTRAVAN_MILLIMETRE;
+        micrometres += c.word[UNIT] == HJOLTRAVAN_MICROMETRE;
         if (refused(&c) || c.word[FACES_LEN] / 3 <= plain_most) {
             wrong_here |= differs(&plain, &c);
             by_plain++;
@@ -515,6 +531,7 @@ int main(int count, char **argument)
     printf("%-16s %8lu cases %8lu differ\n", "all", all, all_wrong);
     printf("%lu of the cases were run by the plain walk too; %lu folds were told one by one; %lu margin points stayed beside folds\n",
            by_plain, told, held);
+    printf("%lu of the cases are in millimetres, %lu in micrometres\n", millimetres, micrometres);
     if (count > 2) {
         print_time(&fast);
 #ifdef HJOLTRAVAN_FOLDS

@@ -17,10 +17,10 @@ void single_plane(const uint32_t points[9], uint64_t out[4]);
 uint64_t single_error(const uint64_t quadric[10], const uint32_t point[3]);
 bool single_inverse(const uint64_t rows[9], uint64_t first[3], uint64_t second[3], uint64_t third[3]);
 uint32_t single_length(const uint32_t points[6]);
-void single_place(const uint32_t points[6], const uint64_t quadrics[20], uint32_t out[3]);
-uint64_t single_cost(const uint32_t points[6], const uint64_t quadrics[20]);
+void single_place(uint32_t bound, const uint32_t points[6], const uint64_t quadrics[20], uint32_t out[3]);
+uint64_t single_cost(uint32_t bound, const uint32_t points[6], const uint64_t quadrics[20]);
 
-enum { PLANE, ERROR, INVERSE, LENGTH, PLACE, NAN_PLACE, KINDS, MAGIC = 0x31736a68, MOST = 64 };
+enum { PLANE, ERROR, INVERSE, LENGTH, PLACE, NAN_PLACE, KINDS, MAGIC = 0x32736a68, MOST = 64 };
 
 /* A kind of case: the words of its input and of its answer. */
 static const struct {
@@ -31,8 +31,8 @@ static const struct {
     [ERROR] = { "error", 20 + 3, 2 },
     [INVERSE] = { "inverse", 18, 1 + 18 },
     [LENGTH] = { "length", 6, 1 },
-    [PLACE] = { "place and cost", 6 + 40, 3 + 2 },
-    [NAN_PLACE] = { "place, NaN error", 6 + 40, 3 + 2 },
+    [PLACE] = { "place and cost", 1 + 6 + 40, 3 + 2 },
+    [NAN_PLACE] = { "place, NaN error", 1 + 6 + 40, 3 + 2 },
 };
 
 static void stop(const char *why)
@@ -94,12 +94,13 @@ static bool ask_length(const uint32_t *in, uint32_t *got)
 static bool ask_place(const uint32_t *in, uint32_t *got)
 {
     uint64_t quadrics[20], beside;
-    uint32_t out[5];
-    take(quadrics, in + 6, 40);
+    uint32_t bound = in[0], out[5];
+    const uint32_t *points = in + 1;
+    take(quadrics, in + 7, 40);
     memset(out, FILLED, sizeof out);
-    single_place(in, quadrics, out);
+    single_place(bound, points, quadrics, out);
     memcpy(got, out, 3 * sizeof *out);
-    uint64_t cost = single_cost(in, quadrics);
+    uint64_t cost = single_cost(bound, points, quadrics);
     memcpy(got + 3, &cost, sizeof cost);
     memcpy(&beside, out + 3, sizeof beside);
     return beside_untouched(beside);

@@ -1,6 +1,7 @@
-/* The small set of document 01 that is run, and margins on its square (document 02, wish 2), through the C interface: each
-   call's answer, and the output where it matters. */
+/* The small set of document 01 that is run, margins on its square and the bounds of the units (document 02, wishes 2 and 3),
+   through the C interface: each call's answer, and the output where it matters. */
 #include "../include/hjoltravan.h"
+#include <math.h>
 #include <stdio.h>
 #include <string.h>
 
@@ -14,27 +15,36 @@ static double q[16 * MOST_POINTS + 6 * MOST_FACES];
 static int failed;
 
 /* Thins v points and f faces both ways, and says whether the answer is the expected one and the two agree in all that they write. */
-static void expect_held(const char *what, const float *points, size_t v, const uint32_t *faces, size_t f, const uint32_t *margin, size_t held,
-                        float ratio, bool preserve, bool limited, float limit, uint32_t number, uint32_t place, uint32_t most_faces,
-                        uint32_t folds) {
+static void expect_in(const char *what, const float *points, size_t v, const uint32_t *faces, size_t f, const uint32_t *margin, size_t held,
+                      uint32_t unit, float ratio, bool preserve, bool limited, float limit, uint32_t number, uint32_t place,
+                      uint32_t most_faces, uint32_t folds) {
     static float plain_points[3 * MOST_POINTS];
     static uint32_t plain_faces[3 * MOST_FACES], answer[5], plain_answer[5];
     memcpy(plain_points, out_points, sizeof out_points);
     memcpy(plain_faces, out_faces, sizeof out_faces);
-    hjoltravan_thin(points, 3 * v, faces, 3 * f, margin, held, ratio, preserve, limited, limit, out_points, 3 * v, out_faces, 3 * f, u,
+    hjoltravan_thin(points, 3 * v, faces, 3 * f, margin, held, unit, ratio, preserve, limited, limit, out_points, 3 * v, out_faces, 3 * f, u,
                     HJOLTRAVAN_WORK_U32(v, f), p, HJOLTRAVAN_WORK_F32(v, f), q, HJOLTRAVAN_WORK_F64(v, f), answer);
     bool right = answer[0] == number && answer[1] == place && answer[3] <= most_faces && answer[4] == folds;
     if (!right) {
         printf("small set: %s: answer %u place %u points %u faces %u folds %u\n", what, answer[0], answer[1], answer[2], answer[3], answer[4]);
         failed++;
     }
-    hjoltravan_thin_plain(points, 3 * v, faces, 3 * f, margin, held, ratio, preserve, limited, limit, plain_points, 3 * v, plain_faces, 3 * f, u,
-                          HJOLTRAVAN_WORK_U32(v, f), p, HJOLTRAVAN_WORK_F32(v, f), q, HJOLTRAVAN_WORK_F64(v, f), plain_answer);
+    hjoltravan_thin_plain(points, 3 * v, faces, 3 * f, margin, held, unit, ratio, preserve, limited, limit, plain_points, 3 * v,
+                          plain_faces, 3 * f, u, HJOLTRAVAN_WORK_U32(v, f), p, HJOLTRAVAN_WORK_F32(v, f), q, HJOLTRAVAN_WORK_F64(v, f),
+                          plain_answer);
     if (memcmp(answer, plain_answer, sizeof answer) || memcmp(out_points, plain_points, sizeof out_points) ||
         memcmp(out_faces, plain_faces, sizeof out_faces)) {
         printf("small set: %s: the plain walk differs\n", what);
         failed++;
     }
+}
+
+/* The same in millimetres. */
+static void expect_held(const char *what, const float *points, size_t v, const uint32_t *faces, size_t f, const uint32_t *margin, size_t held,
+                        float ratio, bool preserve, bool limited, float limit, uint32_t number, uint32_t place, uint32_t most_faces,
+                        uint32_t folds) {
+    expect_in(what, points, v, faces, f, margin, held, HJOLTRAVAN_MILLIMETRE, ratio, preserve, limited, limit, number, place, most_faces,
+              folds);
 }
 
 /* The same without a margin. */
@@ -50,17 +60,73 @@ static void expect_folds(const char *what, const float *points, size_t v, const 
                          size_t room, const uint32_t expected[FOLD_ROOM]) {
     static uint32_t folds[FOLD_ROOM], answer[5];
     for (size_t i = 0; i < FOLD_ROOM; i++) folds[i] = UNTOUCHED;
-    hjoltravan_thin_folds(points, 3 * v, faces, 3 * f, NULL, 0, ratio, preserve, false, 0, out_points, 3 * v, out_faces, 3 * f, u,
-                          HJOLTRAVAN_WORK_U32(v, f), p, HJOLTRAVAN_WORK_F32(v, f), q, HJOLTRAVAN_WORK_F64(v, f), folds, room, answer);
+    hjoltravan_thin_folds(points, 3 * v, faces, 3 * f, NULL, 0, HJOLTRAVAN_MILLIMETRE, ratio, preserve, false, 0, out_points, 3 * v,
+                          out_faces, 3 * f, u, HJOLTRAVAN_WORK_U32(v, f), p, HJOLTRAVAN_WORK_F32(v, f), q, HJOLTRAVAN_WORK_F64(v, f),
+                          folds, room, answer);
     if (memcmp(folds, expected, sizeof folds)) {
         printf("small set: %s: answer %u folds %u, listed %u %u %u ..\n", what, answer[0], answer[4], folds[0], folds[1], folds[2]);
         failed++;
     }
 }
 
+static const float square[] = {0, 0, 0, 2, 0, 0, 2, 2, 0, 0, 2, 0, 1, 1, 0};
+static const uint32_t fan[] = {0, 1, 4, 1, 2, 4, 2, 3, 4, 3, 0, 4};
+
+/* A square as wide as that, but for the x of its corner 1, which is coordinate 3. It is thinned, or refused there. */
+static void expect_wide(const char *what, uint32_t unit, float wide, float x, bool admitted) {
+    const float half = wide / 2, points[] = {0, 0, 0, x, 0, 0, wide, wide, 0, 0, wide, 0, half, half, 0};
+    if (admitted)
+        expect_in(what, points, 5, fan, 4, NULL, 0, unit, 0.5f, false, false, 0, 0, 0, 2, 1);
+    else
+        expect_in(what, points, 5, fan, 4, NULL, 0, unit, 0.5f, false, false, 0, 7, 3, 0, 0);
+}
+
+/* The bound of each unit, the next f32 above it, and the same below zero. */
+static void expect_bounds(void) {
+    enum { MM = HJOLTRAVAN_MILLIMETRE, UM = HJOLTRAVAN_MICROMETRE };
+    const float step = 0x1.000002p0f; /* a bound times this is the next f32 above it */
+    for (float side = 1; side >= -1; side -= 2) {
+        const float wide = 1024 * side, wider = 1048576 * side;
+        expect_wide("1024 mm", MM, wide, wide, true);
+        expect_wide("the f32 above 1024 mm", MM, wide, step * wide, false);
+        expect_wide("1234 mm", MM, wide, 1234 * side, false);
+        expect_wide("1048576 mm", MM, wide, wider, false);
+        expect_wide("1024 um", UM, wide, wide, true);
+        expect_wide("the f32 above 1024 um", UM, wide, step * wide, true);
+        expect_wide("1048576 um", UM, wider, wider, true);
+        expect_wide("the f32 above 1048576 um", UM, wider, step * wider, false);
+    }
+}
+
+/* Numbers that are no unit, and what is looked at before and after. */
+static void expect_units(void) {
+    static const uint32_t none[] = {0, 3, 65537, 65538, UINT32_MAX};
+    static const float over[] = {0, 0, 0, 2, 0, 0, 2, 2, 0, 0, 2, 0, 1, 1, INFINITY};
+    static const uint32_t bad_faces[] = {0, 0, 9};
+    for (size_t i = 0; i < sizeof none / sizeof *none; i++)
+        expect_in("no unit", square, 5, fan, 4, NULL, 0, none[i], 0.5f, false, false, 0, 24, 0, 0, 0);
+    expect_in("no unit, ratio 2", square, 5, fan, 4, NULL, 0, 3, 2.0f, false, false, 0, 5, 0, 0, 0);
+    expect_in("no unit, limit NaN", square, 5, fan, 4, NULL, 0, 3, 0.5f, false, true, NAN, 6, 0, 0, 0);
+    expect_in("no unit, no limit NaN", square, 5, fan, 4, NULL, 0, 3, 0.5f, false, false, NAN, 24, 0, 0, 0);
+    expect_in("no unit, a coordinate over", over, 5, fan, 4, NULL, 0, 3, 0.5f, false, false, 0, 24, 0, 0, 0);
+    expect_in("no unit, ratio zero", square, 5, fan, 4, NULL, 0, 3, 0.0f, false, false, 0, 24, 0, 0, 0);
+    expect_in("no unit, a bad face", square, 5, bad_faces, 1, NULL, 0, 3, 0.5f, false, false, 0, 24, 0, 0, 0);
+    expect_in("a coordinate over, ratio zero", over, 5, fan, 4, NULL, 0, HJOLTRAVAN_MILLIMETRE, 0.0f, false, false, 0, 7, 14, 0, 0);
+}
+
+/* A ridge between two slopes, whose planes meet beyond 1,024: the one fold puts its point there, or in the ridge's middle. */
+static void expect_ridge(const char *what, uint32_t unit, float x, float y) {
+    static const float ridge[] = {1024, 0, 1, 1024, 0, -1, 1020, 0, 0, 1020, 4, 3, 1020, -4, 3, 1020, 4, -3, 1020, -4, -3};
+    static const uint32_t slopes[] = {0, 1, 2, 0, 3, 4, 1, 5, 6}, held[] = {2, 3, 4, 5, 6}, left[] = {0, 1, 2, 0, 3, 4};
+    const float points[] = {x, y, 0, 1020, 4, 3, 1020, -4, 3, 1020, 4, -3, 1020, -4, -3};
+    expect_in(what, ridge, 7, slopes, 3, held, 5, unit, 0.5f, false, false, 0, 0, 0, 2, 1);
+    if (memcmp(out_points, points, sizeof points) || memcmp(out_faces, left, sizeof left)) {
+        printf("small set: %s: another mesh\n", what);
+        failed++;
+    }
+}
+
 int main(void) {
-    static const float square[] = {0, 0, 0, 2, 0, 0, 2, 2, 0, 0, 2, 0, 1, 1, 0};
-    static const uint32_t fan[] = {0, 1, 4, 1, 2, 4, 2, 3, 4, 3, 0, 4};
     expect("the square", square, 5, fan, 4, 0.5f, false, false, 0, 0, 0, 2, 1);
     expect("preserve on", square, 5, fan, 4, 0.5f, true, false, 0, 10, 4, 0, 0);
     expect("limit 1.0", square, 5, fan, 4, 0.5f, false, true, 1.0f, 11, 0, 0, 0);
@@ -120,6 +186,11 @@ int main(void) {
         memcpy(ten + 6 * i, six, sizeof six);
     }
     expect("ten faces, ratio 0.1", strip, 12, ten, 10, 0.1f, false, false, 0, 0, 0, 9, 1);
+
+    expect_bounds();
+    expect_units();
+    expect_ridge("the ridge in micrometres", HJOLTRAVAN_MICROMETRE, 1026, -0.0f);
+    expect_ridge("the ridge in millimetres", HJOLTRAVAN_MILLIMETRE, 1024, 0);
 
     printf("small set: %d failed\n", failed);
     return failed != 0;

@@ -33,6 +33,7 @@ pub fn simplifier(case: &Case) -> QuadricErrorSimplifier {
     // The third parameter is stored by the Rust and never read.
     let mut simplifier = QuadricErrorSimplifier::with_params(limit, case.preserve, 0.0);
     simplifier.margin = case.margin.iter().map(|&point| point as usize).collect();
+    simplifier.bound = rules::bound(case.unit).expect("a unit, of an admitted mesh");
     simplifier
 }
 

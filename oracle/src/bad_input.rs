@@ -4,9 +4,10 @@ use crate::case::{Case, Lent};
 use crate::dressing::{dressed, lend_as_stated, plain};
 use crate::margins::spoil_margin;
 use crate::random::Random;
-use crate::rules::LARGEST_COORDINATE;
+use crate::rules;
 use crate::shapes::{self, Mesh};
 use crate::steps::moved;
+use crate::units;
 
 /// One fault, or several at once so that their order counts.
 pub fn refused(random: &mut Random) -> Case {
@@ -27,7 +28,7 @@ pub fn spoil(random: &mut Random, case: &mut Case) {
     let face = random.below((case.faces.len() / 3).max(1));
     // A long list that repeats itself stays short in the file only if left alone.
     let lists = case.points.len().max(case.faces.len()) < 1000;
-    match random.below(10) {
+    match random.below(11) {
         0 => add_odd_entries(random, case),
         1 => shorten(random, case),
         2 => {
@@ -42,16 +43,22 @@ pub fn spoil(random: &mut Random, case: &mut Case) {
             }
         }
         3 => case.ratio = bad_ratio(random),
-        4 => {
-            case.limited = !random.once_in(4);
-            case.limit = any_nan(random);
+        4 => spoil_limit(random, case),
+        5 if lists && !case.points.is_empty() => {
+            case.points[coordinate] = bad_coordinate(random, case.unit)
         }
-        5 if lists && !case.points.is_empty() => case.points[coordinate] = bad_coordinate(random),
         6 | 7 if lists && case.faces.len() >= 3 => spoil_face(random, case, face),
         8 => case.ratio = random.choose(&[0.0f32, -0.0]).to_bits(),
+        9 => units::spoil(random, case),
         _ if random.once_in(8) => *case = over_size_limit(random),
         _ => shorten(random, case),
     }
+}
+
+/// A NaN, mostly with the flag that has it looked at.
+pub fn spoil_limit(random: &mut Random, case: &mut Case) {
+    case.limited = !random.once_in(4);
+    case.limit = any_nan(random);
 }
 
 /// Faces that name a point too high, a point twice, or both.
@@ -123,13 +130,15 @@ fn any_nan(random: &mut Random) -> u32 {
     random.choose(&[0x7fc0_0000, 0xffc0_0000, 0x7f80_0001, 0xff80_0001, 0x7fff_ffff, 0xffff_ffff])
 }
 
-fn bad_coordinate(random: &mut Random) -> u32 {
+/// Not finite, or above the unit's bound; of a number that is no unit, above every bound.
+pub fn bad_coordinate(random: &mut Random, unit: u32) -> u32 {
     let sign = (random.below(2) as u32) << 31;
+    let bound = rules::bound(unit).unwrap_or(f32::MAX);
     match random.below(4) {
         0 => any_nan(random),
         1 => f32::INFINITY.to_bits() | sign,
         2 => f32::MAX.to_bits() | sign,
-        _ => moved(LARGEST_COORDINATE.to_bits(), 1) | sign,
+        _ => moved(bound.to_bits(), 1) | sign,
     }
 }
 
@@ -158,6 +167,7 @@ pub fn at_size_limit(random: &mut Random) -> Case {
     let points = random.choose(&[65_535, 65_536, 65_536, 65_536, 65_537]);
     let faces = random.choose(&[131_071, 131_072, 131_072, 131_072, 131_073]);
     let mut case = repeated(points, faces);
+    units::set(random, &mut case);
     match random.below(4) {
         0 => case.ratio = (1.0f32 / 33_554_432.0).to_bits(),
         1 => case.ratio = 0,

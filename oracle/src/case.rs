@@ -7,8 +7,8 @@
 
 use std::io::{self, Write};
 
-/// "hjc2" as bytes in the file.
-const MAGIC: u32 = u32::from_le_bytes(*b"hjc2");
+/// "hjc3" as bytes in the file.
+const MAGIC: u32 = u32::from_le_bytes(*b"hjc3");
 
 /// What a call is given. Floats are kept as bits, so that any NaN can be stored.
 #[derive(Clone, Debug)]
@@ -18,6 +18,8 @@ pub struct Case {
     pub faces: Vec<u32>,
     /// Numbers of points that must not move.
     pub margin: Vec<u32>,
+    /// Any number; units are 1 and 2.
+    pub unit: u32,
     pub ratio: u32,
     pub preserve: bool,
     pub limited: bool,
@@ -86,6 +88,7 @@ impl Case {
         let lent = &self.lent;
         let mut words = vec![
             self.family,
+            self.unit,
             self.ratio,
             self.preserve as u32 | (self.limited as u32) << 1,
             self.limit,

@@ -4,6 +4,7 @@ use crate::case::{Case, Lent};
 use crate::random::Random;
 use crate::shapes::{self, Mesh};
 use crate::steps::moved;
+use crate::units;
 
 /// The mesh in some place, size and numbering, with any settings.
 pub fn dressed(random: &mut Random, mut mesh: Mesh) -> Case {
@@ -22,11 +23,14 @@ pub fn dressed(random: &mut Random, mut mesh: Mesh) -> Case {
     case
 }
 
-/// The mesh as it stands: no margin, ratio 1, no limit, preserve off, memory as stated.
+/// The mesh as it stands: no margin, the first unit that has room for it, ratio 1,
+/// no limit, preserve off, memory as stated.
 pub fn plain(mesh: Mesh) -> Case {
+    let points: Vec<u32> = mesh.points.concat().iter().map(|&x| (x as f32).to_bits()).collect();
     Case {
         family: 0,
-        points: mesh.points.concat().iter().map(|&x| (x as f32).to_bits()).collect(),
+        unit: units::first_for(&points),
+        points,
         faces: mesh.faces.concat(),
         margin: Vec::new(),
         ratio: 1.0f32.to_bits(),
@@ -73,6 +77,7 @@ pub fn lend_as_stated(case: &mut Case) {
 }
 
 pub fn set_options(random: &mut Random, case: &mut Case) {
+    units::set(random, case);
     case.ratio = any_ratio(random, case.faces.len() / 3);
     case.preserve = random.once_in(2);
     case.limited = random.once_in(3);

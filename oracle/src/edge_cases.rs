@@ -4,9 +4,9 @@
 use crate::case::Case;
 use crate::dressing::{dressed, length, plain, random_face};
 use crate::random::Random;
-use crate::rules::LARGEST_COORDINATE as LARGEST;
 use crate::shapes::{self, along, Mesh, Point};
 use crate::steps::{search, Knob};
+use crate::units::{self, UNITS};
 
 pub fn ratio_step(random: &mut Random, most: usize) -> Vec<Case> {
     let mesh = shapes::surface(random, most);
@@ -62,6 +62,7 @@ pub fn squash_step(random: &mut Random) -> Vec<Case> {
     let size = 2.0f64.powi(random.below(36) as i32 - 20);
     let mesh = along(axis, Mesh { points, faces: vec![[0, 1, 2], [1, 3, 4]] });
     let mut case = plain(mesh.map(|p| p.map(|x| x * size)));
+    units::set(random, &mut case);
     one_fold(&mut case);
     let knob = Knob::Coordinate((1 + axis) % 3);
     search(random, case, 1, |_, _| (knob, 0))
@@ -120,7 +121,7 @@ fn leaf_step(random: &mut Random, case: Case, size: f64) -> Vec<Case> {
     search(random, case, 12, |random, case| {
         let place = random.between(9, case.points.len() - 1);
         let other = f32::from_bits(case.points[place]) as f64 + random.around(size);
-        (Knob::Coordinate(place), (other as f32).clamp(-LARGEST, LARGEST).to_bits())
+        (Knob::Coordinate(place), units::admitted(case.unit, other as f32).to_bits())
     })
 }
 
@@ -129,6 +130,7 @@ pub fn turn_step(random: &mut Random) -> Vec<Case> {
     if random.once_in(3) {
         // Leaves no larger than the fold.
         let mut case = plain(leaves(random, 1.5));
+        units::set(random, &mut case);
         only_first_pair(&mut case);
         return leaf_step(random, case, 2.0);
     }
@@ -154,6 +156,7 @@ pub fn turn_step(random: &mut Random) -> Vec<Case> {
         add_leaf(&mut mesh, 1, tips);
     }
     let mut case = plain(mesh);
+    units::set(random, &mut case);
     one_fold(&mut case);
     case.limited = true;
     case.limit = length(&case, 1, 2).to_bits();
@@ -186,6 +189,7 @@ fn ray(random: &mut Random, aim: f64) -> Mesh {
 pub fn place_step(random: &mut Random) -> Vec<Case> {
     if random.once_in(3) {
         let mut case = plain(leaves(random, 30.0));
+        units::set(random, &mut case);
         only_first_pair(&mut case);
         return leaf_step(random, case, 30.0);
     }
@@ -194,6 +198,7 @@ pub fn place_step(random: &mut Random) -> Vec<Case> {
     let axis = random.below(3);
     let aim = if tiny { 4.0 + random.around(1.0) } else { 2.0 + random.around(0.2) };
     let mut case = plain(along(axis, ray(random, aim)).map(|p| p.map(|x| x * size)));
+    units::set(random, &mut case);
     only_first_pair(&mut case);
     lean_step(random, case, size, axis)
 }
@@ -203,23 +208,35 @@ fn lean_step(random: &mut Random, case: Case, size: f64, axis: usize) -> Vec<Cas
     let knob = Knob::Coordinate(9 + axis);
     search(random, case, 8, |random, case| {
         let now = f32::from_bits(case.points[9 + axis]) as f64;
-        (knob, ((now + random.around(20.0 * size)) as f32).clamp(-LARGEST, LARGEST).to_bits())
+        let other = (now + random.around(20.0 * size)) as f32;
+        (knob, units::admitted(case.unit, other).to_bits())
     })
 }
 
-/// The solved point near the bound of coordinates.
+/// The solved point near the bound of a unit.
 pub fn bound_step(random: &mut Random) -> Vec<Case> {
+    let unit = random.choose(&UNITS);
     let axis = random.below(3);
+    // As small beside the bound in either unit.
+    let size = random.choose(&[1.0, 8.0, 64.0]) / 1_048_576.0 * units::bound_of(unit) as f64;
+    let case = ray_to_bound(random, unit, size, axis, 0.0);
+    lean_step(random, case, size, axis)
+}
+
+/// A ray along an axis, its solved point at the bound of a unit, or beyond it by a
+/// part of the way from point 0.
+pub fn ray_to_bound(random: &mut Random, unit: u32, size: f64, axis: usize, beyond: f64) -> Case {
     let side = random.choose(&[1.0, -1.0]);
-    let size = random.choose(&[1.0, 8.0, 64.0]);
     let aim = 1.0 + random.part();
     let mut mesh = along(axis, ray(random, aim)).map(|p| p.map(|x| x * size));
     let length = mesh.points[1].iter().map(|x| x * x).sum::<f64>().sqrt();
-    let start = LARGEST as f64 - aim * length;
+    let bound = units::bound_of(unit) as f64;
+    let start = bound - (1.0 - beyond) * aim * length;
     for p in &mut mesh.points {
-        p[axis] = side * (start + p[axis]).min(LARGEST as f64);
+        p[axis] = side * (start + p[axis]).min(bound);
     }
     let mut case = plain(mesh);
+    case.unit = unit;
     only_first_pair(&mut case);
-    lean_step(random, case, size, axis)
+    case
 }

@@ -10,6 +10,7 @@ use crate::margins;
 use crate::odd_places::{choice, far, hats, no_area};
 use crate::random::Random;
 use crate::shapes::{self, Mesh};
+use crate::units;
 
 type Maker = fn(&mut Random, usize) -> Vec<Case>;
 
@@ -23,7 +24,7 @@ const fn family(name: &'static str, weight: usize, make: Maker) -> Family {
     Family { name, weight, make }
 }
 
-const FAMILIES: [Family; 31] = [
+const FAMILIES: [Family; 34] = [
     family("refused", 30, |r, _| vec![refused(r)]),
     family("bad faces", 6, |r, _| vec![bad_faces(r)]),
     family("sizes", 1, |r, _| vec![at_size_limit(r)]),
@@ -47,7 +48,7 @@ const FAMILIES: [Family; 31] = [
     family("squash step", 12, |r, _| squash_step(r)),
     family("turn step", 18, |r, _| turn_step(r)),
     family("place step", 18, |r, _| place_step(r)),
-    family("bound step", 9, |r, _| bound_step(r)),
+    family("bound step", 18, |r, _| bound_step(r)),
     family("margin points", 15, |r, most| vec![margins::points(r, most)]),
     family("margin curve", 15, |r, most| vec![margins::curve(r, most)]),
     family("margin all", 6, |r, most| vec![margins::every(r, most)]),
@@ -55,6 +56,9 @@ const FAMILIES: [Family; 31] = [
     family("margin unused", 9, |r, most| vec![margins::unused(r, most)]),
     family("margin sizes", 1, |r, _| vec![margins::at_size_limit(r)]),
     family("bad margin", 12, |r, _| vec![margins::bad(r)]),
+    family("at bound", 24, |r, most| vec![units::at_bound(r, most)]),
+    family("both units", 12, units::both),
+    family("bad unit", 15, |r, _| vec![units::bad(r)]),
 ];
 
 pub fn names() -> Vec<&'static str> {

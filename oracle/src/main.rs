@@ -30,6 +30,7 @@ mod rules;
 mod shapes;
 mod single_cases;
 mod steps;
+mod units;
 
 // The published file with quadric_error.patch applied by ./build.
 #[allow(dead_code)]

@@ -7,6 +7,7 @@ use crate::case::Case;
 use crate::dressing::{dressed, random_face};
 use crate::random::Random;
 use crate::shapes::{self, Mesh};
+use crate::units;
 use std::collections::{BTreeMap, BTreeSet, VecDeque};
 
 /// These points become the margin, in order and each once.
@@ -216,6 +217,7 @@ fn add_unused(random: &mut Random, mesh: &mut Mesh) {
 /// The highest point number that there can be, and one more.
 pub fn at_size_limit(random: &mut Random) -> Case {
     let mut case = repeated(65_536, 1);
+    units::set(random, &mut case);
     case.margin = random.choose(&[&[65_535][..], &[0, 65_535], &[65_536], &[0, 65_536]]).to_vec();
     case
 }

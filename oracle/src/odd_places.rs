@@ -4,8 +4,8 @@ use crate::case::Case;
 use crate::dressing::{dressed, lend_as_stated, plain, renumber, set_options};
 use crate::edge_cases::only_first_pair;
 use crate::random::Random;
-use crate::rules::LARGEST_COORDINATE as LARGEST;
 use crate::shapes::{self, along, Mesh};
+use crate::units::{self, UNITS};
 
 /// Faces without area: points that coincide or lie on a line.
 pub fn no_area(random: &mut Random, most: usize) -> Case {
@@ -40,24 +40,29 @@ pub fn no_area(random: &mut Random, most: usize) -> Case {
     dressed(random, mesh)
 }
 
-/// Coordinates at the bound, at the smallest numbers there are, and at -0.0.
+/// Coordinates at the bound of a unit, at the smallest numbers there are, and at -0.0.
 pub fn far(random: &mut Random, most: usize) -> Case {
     let mesh = shapes::any(random, most);
     let mut case = dressed(random, mesh);
     let largest = case.points.iter().map(|&x| f32::from_bits(x).abs()).fold(0.0, f32::max);
     let kind = random.below(5);
+    let unit = random.choose(&UNITS);
+    let bound = units::bound_of(unit);
     let small = 2.0f64.powi(-(random.between(20, 149) as i32));
     for bits in &mut case.points {
         let x = f32::from_bits(*bits);
         *bits = match kind {
             // The farthest point is just at the bound.
-            0 => (x / largest.max(1e-30) * LARGEST).clamp(-LARGEST, LARGEST),
+            0 => (x / largest.max(1e-30) * bound).clamp(-bound, bound),
             // Near one corner of what is admitted.
-            1 => (LARGEST - x.abs()).clamp(-LARGEST, LARGEST),
+            1 => (bound - x.abs()).clamp(-bound, bound),
             // So small that squares vanish, in part or whole.
             2 => (x as f64 * small) as f32,
             // Everything at once.
-            3 => random.choose(&[0.0, -0.0, LARGEST, -LARGEST, 1e-45, -1e-45, 1e-38, 1.0, x, x]),
+            3 => {
+                let x = x.clamp(-bound, bound);
+                random.choose(&[0.0, -0.0, bound, -bound, 1e-45, -1e-45, 1e-38, 1.0, x, x])
+            }
             // Whole steps of the smallest number.
             _ => f32::from_bits(random.below(5) as u32 | (random.below(2) as u32) << 31),
         }
@@ -66,6 +71,7 @@ pub fn far(random: &mut Random, most: usize) -> Case {
     // The size changed, so a limit by length must be chosen anew.
     lend_as_stated(&mut case);
     set_options(random, &mut case);
+    case.unit = unit;
     case
 }
 

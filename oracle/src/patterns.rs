@@ -1,6 +1,7 @@
 //! Bit patterns of f32 and f64, in the styles that single operations are asked in.
 
 use crate::random::Random;
+use crate::units::{bound_of, UNITS};
 
 /// How the numbers of one case hang together.
 #[derive(Clone, Copy)]
@@ -13,8 +14,8 @@ pub enum Style {
     Near(f64),
     /// Small whole numbers over eight.
     Whole,
-    /// Around 1,048,576, on either side.
-    Bound,
+    /// Around the bound of a unit, on either side.
+    Bound(u32),
     /// Subnormal, or nearly.
     Low,
     /// Zeros, most of them of one sign, and ones.
@@ -29,7 +30,7 @@ impl Style {
             3 => Style::Window(random.between(0, 40) as i32 - 20),
             4 => Style::Near(random.around(1000.0)),
             5 => Style::Whole,
-            6 => Style::Bound,
+            6 => Style::Bound(random.choose(&UNITS)),
             7 => Style::Zeros(random.once_in(2)),
             _ => Style::Low,
         }
@@ -47,7 +48,7 @@ pub fn any32(random: &mut Random, style: Style) -> u32 {
         }
         Style::Near(first) => ((first as f32).to_bits()).wrapping_add(random.below(9) as u32),
         Style::Whole => ((random.below(33) as f32 - 16.0) / 8.0).to_bits(),
-        Style::Bound => sign | (0x4980_0000 + random.below(9) as u32 - 4),
+        Style::Bound(unit) => sign | (bound_of(unit).to_bits() + random.below(9) as u32 - 4),
         Style::Low => sign | random.below(1 << digits) as u32,
         Style::Zeros(below) => (zero_or_one(random, below) as f32).to_bits(),
     }
@@ -65,13 +66,25 @@ pub fn any64(random: &mut Random, style: Style) -> u64 {
         }
         Style::Near(first) => first.to_bits().wrapping_add(random.below(9) as u64),
         Style::Whole => ((random.below(33) as f64 - 16.0) / 8.0).to_bits(),
-        Style::Bound => {
-            let bound = 1_048_576f64.to_bits() as i64;
+        Style::Bound(unit) => {
+            let bound = (bound_of(unit) as f64).to_bits() as i64;
             sign | (bound + random.choose(&[1, 1 << 28, 1 << 29]) * (random.below(9) as i64 - 4))
                 as u64
         }
         Style::Low => sign | random.below(1 << digits) as u64,
         Style::Zeros(below) => zero_or_one(random, below).to_bits(),
+    }
+}
+
+/// A bound of coordinates: mostly that of a unit, now and then any pattern.
+pub fn any_bound(random: &mut Random) -> u32 {
+    match random.below(8) {
+        0 => random.choose(&ENDS_32),
+        1 => {
+            let style = Style::any(random);
+            any32(random, style)
+        }
+        _ => bound_of(random.choose(&UNITS)).to_bits(),
     }
 }
 
@@ -85,7 +98,7 @@ fn zero_or_one(random: &mut Random, below: bool) -> f64 {
 }
 
 /// The f32 patterns at the ends of what there is. Some of the NaNs signal.
-const ENDS_32: [u32; 16] = [
+const ENDS_32: [u32; 18] = [
     0,
     0x8000_0000,
     0x7f80_0000,
@@ -100,6 +113,8 @@ const ENDS_32: [u32; 16] = [
     0x0080_0000,
     0x7f7f_ffff,
     0xff7f_ffff,
+    0x4480_0000,
+    0xc480_0000,
     0x4980_0000,
     0xc980_0000,
 ];

@@ -1,12 +1,23 @@
-//! Answers 1 to 9, 12 and the answer at ratio zero, written from the table of
-//! document 01 and from wish 2 of document 02, and not from the Rust, which is
-//! asked only about admitted meshes.
+//! Answers 1 to 9, 12, 24 and the answer at ratio zero, written from the table of
+//! document 01 and from wishes 2 and 3 of document 02, and not from the Rust, which
+//! is asked only about admitted meshes.
 
 use crate::case::{Answer, Case, Lent};
 
 const MOST_POINTS: usize = 65_536;
 const MOST_FACES: usize = 131_072;
-pub const LARGEST_COORDINATE: f32 = 1_048_576.0;
+
+pub const MILLIMETRE: u32 = 1;
+pub const MICROMETRE: u32 = 2;
+
+/// The largest size of a coordinate in a unit; none where the number is no unit.
+pub fn bound(unit: u32) -> Option<f32> {
+    match unit {
+        MILLIMETRE => Some(1_024.0),
+        MICROMETRE => Some(1_048_576.0),
+        _ => None,
+    }
+}
 
 /// The answer, unless the mesh is admitted and its ratio is above zero.
 pub fn answer_before_walk(case: &Case) -> Option<Answer> {
@@ -25,7 +36,7 @@ fn refused(number: u32, place: usize) -> Answer {
     Answer { number, place: place as u32, ..Answer::default() }
 }
 
-/// Numbers 1 to 7, in their order.
+/// Numbers 1 to 6, 24 and 7, in their order.
 fn refusal_before_faces(case: &Case) -> Option<(u32, usize)> {
     if case.points.len() % 3 != 0 || case.faces.len() % 3 != 0 {
         return Some((1, 0));
@@ -47,9 +58,12 @@ fn refusal_before_faces(case: &Case) -> Option<(u32, usize)> {
     if case.limited && f32::from_bits(case.limit).is_nan() {
         return Some((6, 0));
     }
+    let Some(bound) = bound(case.unit) else {
+        return Some((24, 0));
+    };
     let bad = |bits: &u32| {
         let coordinate = f32::from_bits(*bits);
-        !coordinate.is_finite() || coordinate.abs() > LARGEST_COORDINATE
+        !coordinate.is_finite() || coordinate.abs() > bound
     };
     case.points.iter().position(bad).map(|place| (7, place))
 }

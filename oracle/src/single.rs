@@ -47,8 +47,10 @@ pub fn length(points: &[u32; 6]) -> u32 {
     bits32((point(points) - point(&points[3..])).magnitude())
 }
 
-/// The place and the cost of a pair, by the published `candidate` itself.
-pub fn place(points: &[u32; 6], quadrics: &[u64; 20]) -> Placed {
+/// The place and the cost of a pair, by the published `candidate` itself. The bound
+/// of the solved point is a pattern like the others.
+pub fn place(bound: u32, points: &[u32; 6], quadrics: &[u64; 20]) -> Placed {
+    let simplifier = QuadricErrorSimplifier { bound: f32::from_bits(bound), ..simplifier() };
     let [pa, pb] = [point(points), point(&points[3..])];
     let [qa, qb] = [0, 10].map(|i| matrix(quadrics[i..i + 10].try_into().expect("ten")));
     let w = Working {
@@ -61,16 +63,16 @@ pub fn place(points: &[u32; 6], quadrics: &[u64; 20]) -> Placed {
         vertex_faces: vec![Vec::new(); 2],
         live_faces: 0,
     };
-    let found = simplifier().any_cost(&w, 0, 1, &HashSet::new()).expect("a pair of free points");
+    let found = simplifier.any_cost(&w, 0, 1, &HashSet::new()).expect("a pair of free points");
     let rust = Place { place: point_bits(&found.position), cost: bits64(found.cost) };
-    Placed { rust, by_rule: by_rule(pa, pb, qa + qb, rust) }
+    Placed { rust, by_rule: by_rule(simplifier.bound, pa, pb, qa + qb, rust) }
 }
 
 /// The choice of the three places, where an error of theirs is a NaN.
-fn by_rule(pa: Point3f, pb: Point3f, q: Matrix4<f64>, rust: Place) -> Option<Place> {
+fn by_rule(bound: f32, pa: Point3f, pb: Point3f, q: Matrix4<f64>, rust: Place) -> Option<Place> {
     let three = [pa, pb, Point3f::from((pa.coords + pb.coords) * 0.5)];
     let placed = |p: &Point3f| Place { place: point_bits(p), cost: bits64(error_at(&q, p)) };
-    if let Some(solved) = solved(pa, pb, &q) {
+    if let Some(solved) = solved(bound, pa, pb, &q) {
         assert_eq!(rust, placed(&solved), "the solved point, worked out twice");
         return None;
     }
@@ -84,13 +86,13 @@ fn by_rule(pa: Point3f, pb: Point3f, q: Matrix4<f64>, rust: Place) -> Option<Pla
 }
 
 /// The solved point where it may stand: the expression of the patched `candidate`.
-fn solved(pa: Point3f, pb: Point3f, q: &Matrix4<f64>) -> Option<Point3f> {
+fn solved(bound: f32, pa: Point3f, pb: Point3f, q: &Matrix4<f64>) -> Option<Point3f> {
     let length = (pa - pb).magnitude();
     (q.fixed_view::<3, 3>(0, 0).into_owned().try_inverse())
         .map(|inv| -inv * q.fixed_view::<3, 1>(0, 3))
         .map(|v| Point3f::new(v[0] as f32, v[1] as f32, v[2] as f32))
         .filter(|p| {
-            p.coords.iter().all(|c| c.is_finite() && c.abs() <= 1_048_576.0)
+            p.coords.iter().all(|c| c.is_finite() && c.abs() <= bound)
                 && (p - pa).magnitude() <= 2.0 * length.max(f32::EPSILON)
         })
 }
@@ -157,7 +159,7 @@ mod tests {
     /// that is a NaN is taken before a number where the NaN's sign bit is set.
     #[test]
     fn a_nan_with_its_sign_set_comes_first() {
-        let nan_at_keep = |nan: u32| place(&[nan, 0, 0, 0, 0, 0], &[0; 20]);
+        let nan_at_keep = |nan: u32| place(0x4480_0000, &[nan, 0, 0, 0, 0, 0], &[0; 20]);
         let below = nan_at_keep(0xffc0_0000);
         assert_eq!(below.rust.place, [0x7fc0_0000, 0, 0]);
         assert_eq!(below.by_rule.expect("a NaN").place, [0, 0, 0]);

@@ -4,13 +4,14 @@
 //! its kind, its patterns and the patterns of the answer. An f64 is two words,
 //! the low one first. The kind says how many words there are.
 
-use crate::patterns::{any32, any64, spoil32, spoil64, Style};
+use crate::patterns::{any32, any64, any_bound, spoil32, spoil64, Style};
 use crate::quadric_error::single::{self, Placed};
 use crate::random::Random;
+use crate::units::{bound_of, UNITS};
 use std::io::{self, Write};
 
-/// "hjs1" as bytes in the file.
-const MAGIC: u32 = u32::from_le_bytes(*b"hjs1");
+/// "hjs2" as bytes in the file.
+const MAGIC: u32 = u32::from_le_bytes(*b"hjs2");
 
 /// The kinds of case: what goes in; what comes out.
 enum Single {
@@ -22,7 +23,7 @@ enum Single {
     Inverse,
     /// Six f32; one f32.
     Length,
-    /// Six f32 and twenty f64; three f32 and one f64.
+    /// The bound, an f32, then six f32 and twenty f64; three f32 and one f64.
     Place,
     /// The same, where a NaN is among the errors of the three places.
     NanPlace,
@@ -118,20 +119,23 @@ fn error(random: &mut Random) -> Vec<u32> {
 }
 
 fn place(random: &mut Random, told: &mut Told) -> Vec<u32> {
+    let bound = any_bound(random);
+    let endless = f32::from_bits(bound).is_infinite();
     let (points, quadrics) = match random.below(10) {
+        0..=4 if endless => endless_pair(random),
         0 | 1 => lists(random),
         2 | 3 => real_pair(random),
         4 => flat_pair(random),
         5 => zero_pair(random),
-        _ => solvable_pair(random),
+        _ => solvable_pair(random, bound),
     };
-    let Placed { rust, by_rule } = single::place(&points, &quadrics);
+    let Placed { rust, by_rule } = single::place(bound, &points, &quadrics);
     let kind = if by_rule.is_some() { Single::NanPlace } else { Single::Place };
     let expected = by_rule.unwrap_or(rust);
     told.nan_places += by_rule.is_some() as u64;
     told.rust_differs += (expected.place != rust.place) as u64;
-    [&[kind as u32], &points[..], &wide(&quadrics), &expected.place, &wide(&[expected.cost])]
-        .concat()
+    let answer = [&expected.place[..], &wide(&[expected.cost])].concat();
+    [&[kind as u32, bound], &points[..], &wide(&quadrics), &answer].concat()
 }
 
 /// A sum of the quadrics of some planes.
@@ -185,9 +189,14 @@ fn zero_pair(random: &mut Random) -> ([u32; 6], [u64; 20]) {
 }
 
 /// A pair whose quadric is solved by a point that is chosen, with its distance from keep
-/// about twice the length, and its parts sometimes about the bound.
-fn solvable_pair(random: &mut Random) -> ([u32; 6], [u64; 20]) {
-    let at = if random.once_in(2) { 1_048_576.0 } else { random.below(64) as f64 / 8.0 };
+/// about twice the length, and its parts sometimes about the bound or a unit's.
+fn solvable_pair(random: &mut Random, bound: u32) -> ([u32; 6], [u64; 20]) {
+    let bound = f32::from_bits(bound).abs();
+    let at = match random.below(5) {
+        0 | 1 if bound.is_finite() => bound as f64,
+        2 => bound_of(random.choose(&UNITS)) as f64,
+        _ => random.below(64) as f64 / 8.0,
+    };
     let solution = [0; 3].map(|_| random.choose(&[0.0, 1.0, -1.0, 0.5]) * at);
     let step = random.choose(&[0.125, 1.0, 3.0, 2f64.powi(-24), 2f64.powi(-22), 0.0]);
     let axis = random.below(3);
@@ -221,6 +230,17 @@ fn solvable_pair(random: &mut Random) -> ([u32; 6], [u64; 20]) {
         spoil64(random, &mut quadrics);
     }
     (points, quadrics)
+}
+
+/// A pair of infinite length, whose quadric is solved beyond every f32.
+fn endless_pair(random: &mut Random) -> ([u32; 6], [u64; 20]) {
+    let axis = random.below(3);
+    let (mut points, mut solution) = ([0f32; 6], [0.0; 3]);
+    // its square is infinite
+    points[3 + axis] = 1e30;
+    solution[axis] = random.choose(&[1e39, -1e39]);
+    let quadrics = [solved_by(random, solution), solved_by(random, solution)].concat();
+    (points.map(f32::to_bits), quadrics.try_into().expect("twenty"))
 }
 
 /// A quadric that is smallest at a point: a diagonal block, or one that mixes the axes.

@@ -1,4 +1,4 @@
--- What a refusal says: its number is one of 1 to 9, or 12, and its place fits u32; 7 names the first bad coordinate, 8 and 9 the lowest bad face, and 12 the first
+-- What a refusal says: its number is one of 1 to 9, 12 or 24, and its place fits u32; 7 names the first bad coordinate, 8 and 9 the lowest bad face, and 12 the first
 -- bad entry of the margin.
 use Prim.Native.Nat.{ℕ, _/_, _≤_, _<_}
 use native.Mathlib.Omega.{arith}
@@ -6,6 +6,7 @@ use mathlib.Core.Path.{_≡_, refl}
 use mathlib.Core.Logic.{_⊎_, inl, inr, ⊎-elim}
 use mathlib.Core.List.{List}
 use mathlib.Core.Bool.{Bool, true, false, cond}
+use mathlib.Mathlib.Data.Bool.Basic.{and-intro}
 use borrow.Author.Tests.{le-leb}
 use lib.ListN.{length, getD}
 use lib.Ieee.{Float, nan, eq}
@@ -15,9 +16,9 @@ use Rattle.lists.proofs.FirstLaws.{first-of}
 use Rattle.walk.specs.Faces.{facesOf}
 use Rattle.meaning.specs.declared.Verdict.{Verdict}
 use Rattle.meaning.specs.declared.Verdict.the-variants.{Refused, Copied}
-use Rattle.meaning.specs.Input.{Input, pointsIn, facesIn}
+use Rattle.meaning.specs.Input.{Input, pointsIn, facesIn, boundIn}
 use Rattle.bits.specs.Cut.{zeroFloat}
-use Rattle.meaning.specs.Answers.{uneven, large, short, empty, badRatio, badLimit, badCoordinate, outside, andThen, faceVerdict, marginVerdict, contentsVerdict, verdictOf}
+use Rattle.meaning.specs.Answers.{uneven, large, short, empty, badRatio, badLimit, badUnit, badCoordinate, outside, andThen, faceVerdict, marginVerdict, contentsVerdict, verdictOf}
 use Rattle.checks.specs.Facts.{noFace, LowestBad, RefusalFits}
 use Rattle.checks.proofs.SearchLaws.{length-faces}
 use Rattle.meaning.proofs.VerdictOrder.{refuses, past, decided, refused-by}
@@ -25,7 +26,7 @@ use Rattle.meaning.proofs.MarginVerdictLaws.{FirstBad, margin-refused, good-few
 use Rattle.lists.proofs.BelowLaws.{length-below, getD-below}
 use Rattle.checks.proofs.OrderLaws.{not-large}
 use Rattle.checks.proofs.FaceVerdictLaws.{lowest-of}
-use Rattle.checks.proofs.VerdictLaws.{passed-six}
+use Rattle.checks.proofs.VerdictLaws.{passed-unit}
 
 -- ---- the places of 7, 8, 9 and 12
 
@@ -61,22 +62,22 @@ eight-or-nine : {v : ℕ} {fs : List Face} {n p : ℕ} → LowestBad v fs n p �
 eight-or-nine {v} {fs} {n} {p} l = either-of (outside v (getD fs p noFace)) (l .number)
 
 -- 7 names the first bad coordinate
-pub first-bad-coordinate : (i : Input) {p : ℕ} → verdictOf i ≡ Refused 7 p → FirstAt (badCoordinate (i .bound)) nan (i .points) p
+pub first-bad-coordinate : (i : Input) {p : ℕ} → verdictOf i ≡ Refused 7 p → FirstAt (badCoordinate (boundIn i)) nan (i .points) p
 first-bad-coordinate i e =
     ⊎-elim (λ s. s .1) (⊎-elim (λ l. absurd (let h = eight-or-nine l in omega arith)) (λ m. absurd (omega (arith, m .0))))
-    (contents-refused (i .points) (i .faces) (i .margin) (i .options .ratio) (i .bound) (passed-six i refl e .rest))
+    (contents-refused (i .points) (i .faces) (i .margin) (i .options .ratio) (boundIn i) (passed-unit i refl e .rest))
 
 -- 8 and 9 name the lowest bad face, 8 before 9
 pub lowest-bad-face : (i : Input) {n p : ℕ} → verdictOf i ≡ Refused n p → 8 ≤ n → n ≤ 9 → LowestBad (pointsIn i) (facesOf (facesIn i) (i .faces)) n p
 lowest-bad-face i {n} e h most =
     ⊎-elim (λ s. absurd (omega (arith, s .0))) (⊎-elim (λ l. l) (λ m. absurd (omega (arith, m .0))))
-    (contents-refused (i .points) (i .faces) (i .margin) (i .options .ratio) (i .bound) (passed-six i (le-leb 7 n (omega arith)) e .rest))
+    (contents-refused (i .points) (i .faces) (i .margin) (i .options .ratio) (boundIn i) (passed-unit i (and-intro (le-leb 7 n (omega arith)) (le-leb n 12 (omega arith))) e .rest))
 
 -- 12 names the first bad entry of the margin
 pub first-bad-entry : (i : Input) {p : ℕ} → verdictOf i ≡ Refused 12 p → FirstBad (pointsIn i) (i .margin) p
 first-bad-entry i e =
     ⊎-elim (λ s. absurd (omega (arith, s .0))) (⊎-elim (λ l. absurd (let h = eight-or-nine l in omega arith)) (λ m. m .1))
-    (contents-refused (i .points) (i .faces) (i .margin) (i .options .ratio) (i .bound) (passed-six i refl e .rest))
+    (contents-refused (i .points) (i .faces) (i .margin) (i .options .ratio) (boundIn i) (passed-unit i refl e .rest))
 
 -- ---- every number and place
 
@@ -87,16 +88,16 @@ entry-few v margin {p} f =
     good-few v margin p (λ j h. rw (getD-below (length margin) j (omega arith)) at (f .none-before j h))
 
 -- a number whose place is 0, or a later one
-from-zero : (test : Bool) (m : ℕ) (later : Verdict) {n p : ℕ} → 1 ≤ m → m ≤ 9
+from-zero : (test : Bool) (m : ℕ) (later : Verdict) {n p : ℕ} → 1 ≤ m → (m ≤ 9) ⊎ (m ≡ 12) ⊎ (m ≡ 24)
     → (test ≡ false → later ≡ Refused n p → RefusalFits n p) → cond test (Refused m 0) later ≡ Refused n p → RefusalFits n p
 from-zero false m later a b after e = after refl e
 from-zero true m later {n} {p} a b after e =
     let number : m ≡ n = cc in
     let place : 0 ≡ p = cc in
-    record { number-least = omega arith; number-known = inl (omega arith); place-fits = omega arith }
+    record { number-least = omega arith; number-known = rw number at b; place-fits = omega arith }
 
 -- the numbers 7 to 9 and 12
-contents-fit : (i : Input) {n p : ℕ} → large (pointsIn i) (facesIn i) ≡ false → contentsVerdict (i .points) (i .faces) (i .margin) (i .options .ratio) (i .bound) ≡ Refused n p → RefusalFits n p
+contents-fit : (i : Input) {n p : ℕ} → large (pointsIn i) (facesIn i) ≡ false → contentsVerdict (i .points) (i .faces) (i .margin) (i .options .ratio) (boundIn i) ≡ Refused n p → RefusalFits n p
 contents-fit i small e =
     let limits = not-large (pointsIn i) (facesIn i) small in
     ⊎-elim
@@ -106,17 +107,18 @@ contents-fit i small e =
     let h = eight-or-nine l in
     record { number-least = omega arith; number-known = inl (omega arith); place-fits = omega (arith, l .lowest .within, length-faces (facesIn i) (i .faces)) })
     (λ m.
-    record { number-least = omega (arith, m .0); number-known = inr (m .0); place-fits = omega (arith, entry-few (pointsIn i) (i .margin) (m .1)) }))
-    (contents-refused (i .points) (i .faces) (i .margin) (i .options .ratio) (i .bound) e)
+    record { number-least = omega (arith, m .0); number-known = inr (inl (m .0)); place-fits = omega (arith, entry-few (pointsIn i) (i .margin) (m .1)) }))
+    (contents-refused (i .points) (i .faces) (i .margin) (i .options .ratio) (boundIn i) e)
 
 -- a refusal's number is one of the table, and its place fits u32
 pub refusal-fits : (i : Input) {n p : ℕ} → verdictOf i ≡ Refused n p → RefusalFits n p
 unfolding verdictOf
 refusal-fits i e =
-    from-zero (uneven (length (i .points)) (length (i .faces))) 1 _ (omega arith) (omega arith)
-    (λ _. from-zero (large (pointsIn i) (facesIn i)) 2 _ (omega arith) (omega arith)
-    (λ small. from-zero (short (pointsIn i) (facesIn i) (i .rooms)) 3 _ (omega arith) (omega arith)
-    (λ _. from-zero (empty (pointsIn i) (facesIn i)) 4 _ (omega arith) (omega arith)
-    (λ _. from-zero (badRatio (i .options .ratio)) 5 _ (omega arith) (omega arith)
-    (λ _. from-zero (badLimit (i .options .limit)) 6 _ (omega arith) (omega arith)
-    (λ _. contents-fit i small)))))) e
+    from-zero (uneven (length (i .points)) (length (i .faces))) 1 _ (omega arith) (inl (omega arith))
+    (λ _. from-zero (large (pointsIn i) (facesIn i)) 2 _ (omega arith) (inl (omega arith))
+    (λ small. from-zero (short (pointsIn i) (facesIn i) (i .rooms)) 3 _ (omega arith) (inl (omega arith))
+    (λ _. from-zero (empty (pointsIn i) (facesIn i)) 4 _ (omega arith) (inl (omega arith))
+    (λ _. from-zero (badRatio (i .options .ratio)) 5 _ (omega arith) (inl (omega arith))
+    (λ _. from-zero (badLimit (i .options .limit)) 6 _ (omega arith) (inl (omega arith))
+    (λ _. from-zero (badUnit (i .options .unit)) 24 _ (omega arith) (inr (inr refl))
+    (λ _. contents-fit i small))))))) e

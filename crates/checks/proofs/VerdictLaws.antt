@@ -1,6 +1,6 @@
 -- What a verdict says of its input. An input is admitted exactly when it is admissible, and copied exactly when it is copiable.
 use mathlib.Core.Path.{_≡_, refl, sym}
-use mathlib.Core.Bool.{Bool, true, false, cond}
+use mathlib.Core.Bool.{Bool, true, false, _&&_, cond}
 use mathlib.Mathlib.Data.Bool.Basic.{and-intro}
 use borrow.Author.Tests.{ltb-false, le-ltb, not-false}
 use lib.Dec.{leb}
@@ -12,9 +12,9 @@ use Rattle.lists.specs.Lists.{some}
 use Rattle.walk.specs.Faces.{facesOf}
 use Rattle.meaning.specs.declared.Verdict.{Verdict}
 use Rattle.meaning.specs.declared.Verdict.the-variants.{Refused, Copied, Admitted}
-use Rattle.meaning.specs.Input.{Input, pointsIn, facesIn}
+use Rattle.meaning.specs.Input.{Input, pointsIn, facesIn, boundIn}
 use Rattle.bits.specs.Cut.{zeroFloat, oneFloat}
-use Rattle.meaning.specs.Answers.{uneven, large, short, empty, badRatio, badLimit, badCoordinate, faceVerdict, marginVerdict, contentsVerdict, verdictOf}
+use Rattle.meaning.specs.Answers.{uneven, large, short, empty, badRatio, badLimit, badUnit, badCoordinate, faceVerdict, marginVerdict, contentsVerdict, verdictOf}
 use Rattle.checks.specs.Facts.{Sized, Copiable, Admissible}
 use Rattle.lists.proofs.TestLaws.{both-true, neither-of}
 use Rattle.checks.proofs.TestLaws.{neither, by-three, even-threes, above-zero, not-zero, each-fails, none-passes}
@@ -23,37 +23,39 @@ use Rattle.meaning.proofs.FaceVerdictLaws.{faces-proper-of, faces-admitted, fac
 use Rattle.meaning.proofs.MarginVerdictLaws.{margin-admitted, margin-good, margin-not-copied, each-good}
 use Rattle.checks.proofs.MarginLaws.{all-good}
 
--- ---- numbers 1 to 6
+-- ---- numbers 1 to 6 and 24
 
--- the verdicts that no number below 7 gives
+-- the verdicts that none of 1 to 6 and 24 gives
 abbrev late : Verdict → Bool
-late (Refused n p) = leb 7 n
+late (Refused n p) = leb 7 n && leb n 12
 late Copied = true
 late Admitted = true
 
--- none of the tests 1 to 6 holds, and r is what the lists then give
-pub record PassedSix (i : Input) (r : Verdict) : Type 0 where
+-- none of the tests 1 to 6 and 24 holds, and r is what the lists then give
+pub record PassedUnit (i : Input) (r : Verdict) : Type 0 where
   pub one : uneven (length (i .points)) (length (i .faces)) ≡ false
   pub two : large (pointsIn i) (facesIn i) ≡ false
   pub three : short (pointsIn i) (facesIn i) (i .rooms) ≡ false
   pub four : empty (pointsIn i) (facesIn i) ≡ false
   pub five : badRatio (i .options .ratio) ≡ false
   pub six : badLimit (i .options .limit) ≡ false
-  pub rest : contentsVerdict (i .points) (i .faces) (i .margin) (i .options .ratio) (i .bound) ≡ r
+  pub unit : badUnit (i .options .unit) ≡ false
+  pub rest : contentsVerdict (i .points) (i .faces) (i .margin) (i .options .ratio) (boundIn i) ≡ r
 
--- a verdict that no number below 7 gives comes after those tests, and back
-pub passed-six : (i : Input) {r : Verdict} → late r ≡ true → verdictOf i ≡ r → PassedSix i r
+-- a verdict that none of them gives comes after those tests, and back
+pub passed-unit : (i : Input) {r : Verdict} → late r ≡ true → verdictOf i ≡ r → PassedUnit i r
 unfolding verdictOf
-passed-six i l e =
+passed-unit i l e =
     let a = past late (uneven (length (i .points)) (length (i .faces))) (Refused 1 0) _ refl l e in
     let b = past late (large (pointsIn i) (facesIn i)) (Refused 2 0) _ refl l (a .1) in
     let c = past late (short (pointsIn i) (facesIn i) (i .rooms)) (Refused 3 0) _ refl l (b .1) in
     let d = past late (empty (pointsIn i) (facesIn i)) (Refused 4 0) _ refl l (c .1) in
     let f = past late (badRatio (i .options .ratio)) (Refused 5 0) _ refl l (d .1) in
     let g = past late (badLimit (i .options .limit)) (Refused 6 0) _ refl l (f .1) in
-    record { one = a .0; two = b .0; three = c .0; four = d .0; five = f .0; six = g .0; rest = g .1 }
+    let h = past late (badUnit (i .options .unit)) (Refused 24 0) _ refl l (g .1) in
+    record { one = a .0; two = b .0; three = c .0; four = d .0; five = f .0; six = g .0; unit = h .0; rest = h .1 }
 
-decided-late : (i : Input) {r : Verdict} → PassedSix i r → verdictOf i ≡ r
+decided-late : (i : Input) {r : Verdict} → PassedUnit i r → verdictOf i ≡ r
 unfolding verdictOf
 decided-late i p =
     sym
@@ -61,10 +63,11 @@ decided-late i p =
     (goes-on _ _ _ _ _ refl (p .two)
     (goes-on _ _ _ _ _ refl (p .three)
     (goes-on _ _ _ _ _ refl (p .four)
-    (goes-on _ _ _ _ _ refl (p .five) (goes-on _ _ _ _ _ refl (p .six) (sym (p .rest))))))))
+    (goes-on _ _ _ _ _ refl (p .five)
+    (goes-on _ _ _ _ _ refl (p .six) (goes-on _ _ _ _ _ refl (p .unit) (sym (p .rest)))))))))
 
--- none of 1 to 7 holds exactly where the input is sized
-sized-of : (i : Input) {r : Verdict} → PassedSix i r → some (badCoordinate (i .bound)) (i .points) ≡ false → Sized i
+-- none of 1 to 7 and 24 holds exactly where the input is sized
+sized-of : (i : Input) {r : Verdict} → PassedUnit i r → some (badCoordinate (boundIn i)) (i .points) ≡ false → Sized i
 sized-of i p seven =
     let lengths = neither-of _ _ (p .one) in
     let limits = neither-of _ _ (p .two) in
@@ -89,11 +92,12 @@ sized-of i p seven =
       ratio-least = passes _ (ratio .0);
       ratio-most = passes _ (ratio .1);
       limit-good = p .six;
-      coordinates-good = each-fails (badCoordinate (i .bound)) nan (i .points) seven;
+      unit-known = not-false _ (p .unit);
+      coordinates-good = each-fails (badCoordinate (boundIn i)) nan (i .points) seven;
     }
 
 -- and back, with what the lists give
-passed-of : (i : Input) {r : Verdict} → Sized i → contentsVerdict (i .points) (i .faces) (i .margin) (i .options .ratio) (i .bound) ≡ r → PassedSix i r
+passed-of : (i : Input) {r : Verdict} → Sized i → contentsVerdict (i .points) (i .faces) (i .margin) (i .options .ratio) (boundIn i) ≡ r → PassedUnit i r
 passed-of i s e =
     record {
       one = neither (even-threes _ (s .points-by-three)) (even-threes _ (s .faces-by-three));
@@ -109,12 +113,13 @@ passed-of i s e =
       four = neither (not-zero _ (s .points-some)) (not-zero _ (s .faces-some));
       five = rw (and-intro (is-true (le zeroFloat (i .options .ratio)) (s .ratio-least)) (is-true (le (i .options .ratio) oneFloat) (s .ratio-most)));
       six = s .limit-good;
+      unit = rw (s .unit-known);
       rest = e;
     }
 
 -- no coordinate of a sized input is bad
-no-bad-coordinate : (i : Input) → Sized i → some (badCoordinate (i .bound)) (i .points) ≡ false
-no-bad-coordinate i s = none-passes (badCoordinate (i .bound)) nan (i .points) (s .coordinates-good)
+no-bad-coordinate : (i : Input) → Sized i → some (badCoordinate (boundIn i)) (i .points) ≡ false
+no-bad-coordinate i s = none-passes (badCoordinate (boundIn i)) nan (i .points) (s .coordinates-good)
 
 -- ---- copied and admitted
 
@@ -122,8 +127,8 @@ no-bad-coordinate i s = none-passes (badCoordinate (i .bound)) nan (i .points) (
 pub admitted : (i : Input) → verdictOf i ≡ Admitted → Admissible i
 unfolding contentsVerdict
 admitted i e =
-    let p = passed-six i refl e in
-    let seven = past admits (some (badCoordinate (i .bound)) (i .points)) (Refused 7 _) _ refl refl (p .rest) in
+    let p = passed-unit i refl e in
+    let seven = past admits (some (badCoordinate (boundIn i)) (i .points)) (Refused 7 _) _ refl refl (p .rest) in
     let above = past admits (eq (i .options .ratio) zeroFloat) Copied _ refl refl (seven .1) in
     let lists = each-admits (faceVerdict (pointsIn i) 0 (facesOf (facesIn i) (i .faces))) (marginVerdict (pointsIn i) (i .margin)) (above .1) in
     record {
@@ -155,8 +160,8 @@ zero-of false lists never e = absurd (never e)
 pub copied : (i : Input) → verdictOf i ≡ Copied → Copiable i
 unfolding contentsVerdict
 copied i e =
-    let p = passed-six i refl e in
-    let seven = past copies (some (badCoordinate (i .bound)) (i .points)) (Refused 7 _) _ refl refl (p .rest) in
+    let p = passed-unit i refl e in
+    let seven = past copies (some (badCoordinate (boundIn i)) (i .points)) (Refused 7 _) _ refl refl (p .rest) in
     record {
       sized = sized-of i p (seven .0);
       ratio-zero =

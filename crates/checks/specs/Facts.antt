@@ -7,14 +7,15 @@ use mathlib.Core.Bool.{Bool, true, false, not, cond}
 use lib.Dec.{T}
 use lib.ListN.{length, getD}
 use lib.Ieee.{nan, le, eq}
+use Rattle.units.specs.Units.{knownUnit}
 use Rattle.walk.specs.declared.Face.{Face}
 use Rattle.lists.specs.Lists.{every, FirstAt}
 use Rattle.walk.specs.Faces.{proper, facesOf}
-use Rattle.meaning.specs.Input.{Input, pointsIn, facesIn}
+use Rattle.meaning.specs.Input.{Input, pointsIn, facesIn, boundIn}
 use Rattle.bits.specs.Cut.{zeroFloat, oneFloat}
 use Rattle.meaning.specs.Answers.{badLimit, badCoordinate, badEntry, outside}
 
--- none of 1 to 7 holds
+-- none of 1 to 7 and 24 holds
 pub record Sized (i : Input) : Type 0 where
   -- 1: three numbers to a point and to a face
   pub points-by-three : length (i .points) ≡ 3 * pointsIn i
@@ -36,15 +37,17 @@ pub record Sized (i : Input) : Type 0 where
   pub ratio-most : T (le (i .options .ratio) oneFloat)
   -- 6: the limit is no NaN
   pub limit-good : badLimit (i .options .limit) ≡ false
-  -- 7: every coordinate is finite, and its size is within the bound
-  pub coordinates-good : (k : ℕ) → k < length (i .points) → badCoordinate (i .bound) (getD (i .points) k nan) ≡ false
+  -- 24: the unit is millimetre or micrometre
+  pub unit-known : knownUnit (i .options .unit) ≡ true
+  -- 7: every coordinate is finite, and its size is within its unit's bound
+  pub coordinates-good : (k : ℕ) → k < length (i .points) → badCoordinate (boundIn i) (getD (i .points) k nan) ≡ false
 
--- none of 1 to 7 holds, and the ratio is 0.0 or -0.0
+-- none of 1 to 7 and 24 holds, and the ratio is 0.0 or -0.0
 pub record Copiable (i : Input) : Type 0 where
   pub sized : Sized i
   pub ratio-zero : eq (i .options .ratio) zeroFloat ≡ true
 
--- none of 1 to 9 and 12 holds, and the ratio is not zero: so every face has three distinct points below V, and no entry of the margin is bad
+-- none of 1 to 9, 12 and 24 holds, and the ratio is not zero: so every face has three distinct points below V, and no entry of the margin is bad
 pub record Admissible (i : Input) : Type 0 where
   pub sized : Sized i
   pub ratio-above : eq (i .options .ratio) zeroFloat ≡ false
@@ -66,8 +69,8 @@ pub record LowestBad (v : ℕ) (faces : List Face) (n p : ℕ) : Type 0 where
   pub lowest : FirstAt (improper v) noFace faces p
   pub number : n ≡ cond (outside v (getD faces p noFace)) 8 9
 
--- a number from 1 to 9, or 12, and a place that fits u32
+-- a number from 1 to 9, or 12 or 24, and a place that fits u32
 pub record RefusalFits (n p : ℕ) : Type 0 where
   pub number-least : 1 ≤ n
-  pub number-known : (n ≤ 9) ⊎ (n ≡ 12)
+  pub number-known : (n ≤ 9) ⊎ (n ≡ 12) ⊎ (n ≡ 24)
   pub place-fits : p < 2 ^ 32

@@ -1,15 +1,21 @@
-// The checks of an input, in their order: answer numbers 1 to 9 and 12.
+// The checks of an input, in their order: answer numbers 1 to 9, 12 and 24.
 // Tests are joined by `|` and `&`: each looks at all its parts, none of which can fail, and answers for NaN too.
 ghost use mathlib.Core.Path.{_≡_};
 ghost use Prim.Native.Nat.{_+_, _*_, _/_, _≤_, _<_};
+ghost use mathlib.Core.Bool.{cond};
 ghost use lib.ListN.{length};
+ghost use Rattle.units.specs.Units.{unitBound, unitOf};
 ghost use Rattle.walk.specs.Faces.{facesOf, faceAt};
-ghost use Rattle.meaning.specs.Answers.{uneven, large, short, empty, badRatio, badLimit, badCoordinate, outside, doubled, badEntry, andThen, faceVerdict, marginVerdict, contentsVerdict, verdictOf};
+ghost use Rattle.meaning.specs.declared.Verdict.the-variants.{Refused};
+ghost use Rattle.meaning.specs.Answers.{uneven, large, short, empty, badRatio, badLimit, badUnit, badCoordinate, outside, doubled, badEntry, andThen, faceVerdict, marginVerdict, contentsVerdict, verdictOf};
 ghost use Rattle.lists.specs.Lists.{firstOf};
 use meaning::Options;
 use meaning::Rooms;
 use meaning::Verdict;
 use placement::Limit;
+use units::is_unit;
+use units::unit_bound;
+use units::unit_of;
 use walk::Face;
 
 // 1: a list's length is no multiple of 3.
@@ -186,16 +192,27 @@ fn check_contents(points: &[f32], faces: &[u32], margin: &[u32], ratio: f32, bou
     }
 }
 
-// What an input is: the first of the numbers 1 to 9 and 12 that holds, in their order.
+// 24: the unit; then what the lists hold, against its bound.
+fn check_measured(points: &[f32], faces: &[u32], margin: &[u32], ratio: f32, unit: u32) -> Verdict
+    requires { ⌜ (length (now points) / 3 ≤ 65536) × (length (now faces) / 3 ≤ 131072) ⌝ }
+    ensures { λ r. ⌜ r ≡ cond (badUnit unit) (Refused 24 0) (contentsVerdict (now (points .entry)) (now (faces .entry)) (now (margin .entry)) ratio (unitBound (unitOf unit))) ⌝ }
+{
+    if !is_unit(unit) {
+        return Verdict::Refused(24, 0);
+    }
+    let bound = unit_bound(unit_of(unit));
+    check_contents(points, faces, margin, ratio, bound)
+}
+
+// What an input is: the first of the numbers 1 to 9, 12 and 24 that holds, in their order.
 pub fn verdict_of(
     points: &[f32],
     faces: &[u32],
     margin: &[u32],
     rooms: Rooms,
     options: Options,
-    bound: f32,
 ) -> Verdict
-    ensures { λ r. ⌜ r ≡ verdictOf (record { points = now (points .entry); faces = now (faces .entry); margin = now (margin .entry); rooms = rooms; options = options; bound = bound }) ⌝ }
+    ensures { λ r. ⌜ r ≡ verdictOf (record { points = now (points .entry); faces = now (faces .entry); margin = now (margin .entry); rooms = rooms; options = options }) ⌝ }
 {
     let v = points.len() / 3;
     let f = faces.len() / 3;
@@ -214,6 +231,6 @@ pub fn verdict_of(
     } else if bad_limit(limit) {
         Verdict::Refused(6, 0)
     } else {
-        check_contents(points, faces, margin, ratio, bound)
+        check_measured(points, faces, margin, ratio, options.unit)
     }
 }

@@ -19,8 +19,8 @@ use Rattle.thinning.specs.Made.{MadeBy, ThinnedBy}
 use Rattle.scanwriter.specs.Written.{writingOf, threeOf, ScanWritten}
 
 -- the options of a call
-abbrev pub optionsOf : (ratio : Float) (preserve limited : Bool) (limit : Float) → Options
-optionsOf ratio preserve limited limit = record { ratio = ratio; preserve = preserve; limit = limitOf limited limit }
+abbrev pub optionsOf : (unit : ℕ) (ratio : Float) (preserve limited : Bool) (limit : Float) → Options
+optionsOf unit ratio preserve limited limit = record { unit = unit; ratio = ratio; preserve = preserve; limit = limitOf limited limit }
 
 -- number, place, points out, faces out, folds made
 abbrev pub fiveOf : Answer → List ℕ

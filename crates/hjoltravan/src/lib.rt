@@ -12,11 +12,12 @@ use scanwriter::Writing;
 use walking::Engine;
 
 // The options of a call.
-fn options_of(ratio: f32, preserve: bool, limited: bool, limit: f32) -> Options
-    ensures { λ r. ⌜ r ≡ optionsOf ratio preserve limited limit ⌝ }
+fn options_of(unit: u32, ratio: f32, preserve: bool, limited: bool, limit: f32) -> Options
+    ensures { λ r. ⌜ r ≡ optionsOf unit ratio preserve limited limit ⌝ }
 {
     let most = placement::limit_of(limited, limit);
     Options {
+        unit: unit,
         ratio: ratio,
         preserve: preserve,
         limit: most,
@@ -36,6 +37,7 @@ pub extern "C" fn hjoltravan_thin(
     points: &[f32],
     faces: &[u32],
     margin: &[u32],
+    unit: u32,
     ratio: f32,
     preserve: bool,
     limited: bool,
@@ -47,9 +49,9 @@ pub extern "C" fn hjoltravan_thin(
     work_f64: &mut [f64],
     answer: &mut [u32; 5],
 )
-    ensures { λ _. ⌜ Called Heap (inputOf (now (points .entry)) (now (faces .entry)) (now (margin .entry)) (optionsOf ratio preserve limited limit) (lent (now («out_points» .entry)) (now («out_faces» .entry)) (now («work_u32» .entry)) (now («work_f32» .entry)) (now («work_f64» .entry)))) (lent (now («out_points» .entry)) (now («out_faces» .entry)) (now («work_u32» .entry)) (now («work_f32» .entry)) (now («work_f64» .entry))) (lent (now («out_points» .exit)) (now («out_faces» .exit)) (now («work_u32» .exit)) (now («work_f32» .exit)) (now («work_f64» .exit))) (now (answer .exit)) ⌝ }
+    ensures { λ _. ⌜ Called Heap (inputOf (now (points .entry)) (now (faces .entry)) (now (margin .entry)) (optionsOf unit ratio preserve limited limit) (lent (now («out_points» .entry)) (now («out_faces» .entry)) (now («work_u32» .entry)) (now («work_f32» .entry)) (now («work_f64» .entry)))) (lent (now («out_points» .entry)) (now («out_faces» .entry)) (now («work_u32» .entry)) (now («work_f32» .entry)) (now («work_f64» .entry))) (lent (now («out_points» .exit)) (now («out_faces» .exit)) (now («work_u32» .exit)) (now («work_f32» .exit)) (now («work_f64» .exit))) (now (answer .exit)) ⌝ }
 {
-    let options = options_of(ratio, preserve, limited, limit);
+    let options = options_of(unit, ratio, preserve, limited, limit);
     let mut folds = [0u32; 1];
     let r = thinning::thin(
         Engine::Heap,
@@ -73,6 +75,7 @@ pub extern "C" fn hjoltravan_thin_plain(
     points: &[f32],
     faces: &[u32],
     margin: &[u32],
+    unit: u32,
     ratio: f32,
     preserve: bool,
     limited: bool,
@@ -84,9 +87,9 @@ pub extern "C" fn hjoltravan_thin_plain(
     work_f64: &mut [f64],
     answer: &mut [u32; 5],
 )
-    ensures { λ _. ⌜ Called Plain (inputOf (now (points .entry)) (now (faces .entry)) (now (margin .entry)) (optionsOf ratio preserve limited limit) (lent (now («out_points» .entry)) (now («out_faces» .entry)) (now («work_u32» .entry)) (now («work_f32» .entry)) (now («work_f64» .entry)))) (lent (now («out_points» .entry)) (now («out_faces» .entry)) (now («work_u32» .entry)) (now («work_f32» .entry)) (now («work_f64» .entry))) (lent (now («out_points» .exit)) (now («out_faces» .exit)) (now («work_u32» .exit)) (now («work_f32» .exit)) (now («work_f64» .exit))) (now (answer .exit)) ⌝ }
+    ensures { λ _. ⌜ Called Plain (inputOf (now (points .entry)) (now (faces .entry)) (now (margin .entry)) (optionsOf unit ratio preserve limited limit) (lent (now («out_points» .entry)) (now («out_faces» .entry)) (now («work_u32» .entry)) (now («work_f32» .entry)) (now («work_f64» .entry)))) (lent (now («out_points» .entry)) (now («out_faces» .entry)) (now («work_u32» .entry)) (now («work_f32» .entry)) (now («work_f64» .entry))) (lent (now («out_points» .exit)) (now («out_faces» .exit)) (now («work_u32» .exit)) (now («work_f32» .exit)) (now («work_f64» .exit))) (now (answer .exit)) ⌝ }
 {
-    let options = options_of(ratio, preserve, limited, limit);
+    let options = options_of(unit, ratio, preserve, limited, limit);
     let mut folds = [0u32; 1];
     let r = thinning::thin(
         Engine::Plain,
@@ -110,6 +113,7 @@ pub extern "C" fn hjoltravan_thin_folds(
     points: &[f32],
     faces: &[u32],
     margin: &[u32],
+    unit: u32,
     ratio: f32,
     preserve: bool,
     limited: bool,
@@ -122,9 +126,9 @@ pub extern "C" fn hjoltravan_thin_folds(
     folds: &mut [u32],
     answer: &mut [u32; 5],
 )
-    ensures { λ _. ⌜ CalledWithFolds Heap (inputOf (now (points .entry)) (now (faces .entry)) (now (margin .entry)) (optionsOf ratio preserve limited limit) (lent (now («out_points» .entry)) (now («out_faces» .entry)) (now («work_u32» .entry)) (now («work_f32» .entry)) (now («work_f64» .entry)))) (lent (now («out_points» .entry)) (now («out_faces» .entry)) (now («work_u32» .entry)) (now («work_f32» .entry)) (now («work_f64» .entry))) (lent (now («out_points» .exit)) (now («out_faces» .exit)) (now («work_u32» .exit)) (now («work_f32» .exit)) (now («work_f64» .exit))) (now (folds .entry)) (now (folds .exit)) (now (answer .exit)) ⌝ }
+    ensures { λ _. ⌜ CalledWithFolds Heap (inputOf (now (points .entry)) (now (faces .entry)) (now (margin .entry)) (optionsOf unit ratio preserve limited limit) (lent (now («out_points» .entry)) (now («out_faces» .entry)) (now («work_u32» .entry)) (now («work_f32» .entry)) (now («work_f64» .entry)))) (lent (now («out_points» .entry)) (now («out_faces» .entry)) (now («work_u32» .entry)) (now («work_f32» .entry)) (now («work_f64» .entry))) (lent (now («out_points» .exit)) (now («out_faces» .exit)) (now («work_u32» .exit)) (now («work_f32» .exit)) (now («work_f64» .exit))) (now (folds .entry)) (now (folds .exit)) (now (answer .exit)) ⌝ }
 {
-    let options = options_of(ratio, preserve, limited, limit);
+    let options = options_of(unit, ratio, preserve, limited, limit);
     let r = thinning::thin(
         Engine::Heap,
         points,

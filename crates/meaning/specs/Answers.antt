@@ -1,4 +1,4 @@
--- The answer numbers 1 to 9 of document 01 and 12 of document 02, in the order they are checked, each "given exactly when".
+-- The answer numbers 1 to 9 of document 01 and 12 and 24 of document 02, in the order they are checked, each "given exactly when".
 use Prim.Native.Nat.{ℕ, suc, _+_, _-_, _*_, _/_, _%_}
 use mathlib.Core.List.{List, [], _∷_}
 use mathlib.Core.Bool.{Bool, false, not, _&&_, _||_, cond}
@@ -6,6 +6,7 @@ use lib.Dec.{ltb, leb, eqb}
 use lib.ListN.{length, getD}
 use lib.Ieee.{Float, isNan, le, eq, neg}
 use lib.Ieee.Scale.{finite}
+use Rattle.units.specs.Units.{knownUnit}
 use Rattle.bits.specs.Cut.{zeroFloat, oneFloat}
 use Rattle.walk.specs.declared.Face.{Face}
 use Rattle.lists.specs.Lists.{some, firstOf, below}
@@ -15,7 +16,7 @@ use Rattle.placement.specs.declared.Limit.the-variants.{Unlimited, AtMost}
 use Rattle.meaning.specs.declared.Rooms.{Rooms}
 use Rattle.meaning.specs.declared.Verdict.{Verdict}
 use Rattle.meaning.specs.declared.Verdict.the-variants.{Refused, Copied, Admitted}
-use Rattle.meaning.specs.Input.{Input, pointsIn, facesIn}
+use Rattle.meaning.specs.Input.{Input, pointsIn, facesIn, boundIn}
 
 -- ---- the numbers, of the lists' lengths, of V and F, or of what stands in the lists
 
@@ -49,7 +50,11 @@ abbrev pub badLimit : Limit → Bool
 badLimit Unlimited = false
 badLimit (AtMost most) = isNan most
 
--- 7: a coordinate is not finite, or its size is above the bound
+-- 24: the unit is neither millimetre nor micrometre
+abbrev pub badUnit : ℕ → Bool
+badUnit unit = not (knownUnit unit)
+
+-- 7: a coordinate is not finite, or its size is above the bound, which is its unit's
 abbrev pub badCoordinate : Float → Float → Bool
 badCoordinate bound x = not (finite x && le x bound && le (neg bound) x)
 
@@ -93,7 +98,7 @@ contentsVerdict points faces margin ratio bound =
     (andThen (faceVerdict (length points / 3) 0 (facesOf (length faces / 3) faces))
     (marginVerdict (length points / 3) margin)))
 
--- 1 to 9 and 12
+-- 1 to 9, 12 and 24, which stands between 6 and 7
 unfoldable pub verdictOf : Input → Verdict
 unfolding contentsVerdict
 verdictOf i =
@@ -103,4 +108,5 @@ verdictOf i =
     (cond (empty (pointsIn i) (facesIn i)) (Refused 4 0)
     (cond (badRatio (i .options .ratio)) (Refused 5 0)
     (cond (badLimit (i .options .limit)) (Refused 6 0)
-    (contentsVerdict (i .points) (i .faces) (i .margin) (i .options .ratio) (i .bound)))))))
+    (cond (badUnit (i .options .unit)) (Refused 24 0)
+    (contentsVerdict (i .points) (i .faces) (i .margin) (i .options .ratio) (boundIn i))))))))

@@ -4,7 +4,7 @@ use mathlib.Core.Path.{_≡_}
 use mathlib.Core.List.{List, _++_}
 use mathlib.Core.Bool.{Bool, cond}
 use lib.ListN.{length, take, drop, replicate}
-use lib.Ieee.{Float, binary32, ofBits}
+use lib.Ieee.{Float}
 use Rattle.geometry.specs.Constants.{nought}
 use Rattle.walk.specs.declared.Pair.{Pair}
 use Rattle.lists.specs.Lists.{overlaid}
@@ -14,10 +14,6 @@ use Rattle.meaning.specs.Input.{Input, pointsIn, facesIn}
 use Rattle.meaning.specs.Outcome.{Outcome, outcome, foldsOf, pairNumbers}
 
 -- ---- what a caller hands over
-
--- no coordinate is larger: 1,048,576
-abbrev pub coordinateBound : Float
-coordinateBound = ofBits binary32 0x4980_0000
 
 -- The cells of the buffers that a caller lends, at one moment: the two outputs, and the work memory of each type.
 pub record Lent : Type 0 where
@@ -40,7 +36,6 @@ inputOf points faces margin options b =
       margin = margin;
       rooms = record { points = length (b .points); faces = length (b .faces); u32s = length (b .u32s); f32s = length (b .f32s); f64s = length (b .f64s) };
       options = options;
-      bound = coordinateBound;
     }
 
 -- ---- what it finds afterwards

@@ -1,4 +1,5 @@
--- Document 01's examples of whole calls, and some with a margin, as one list with one proof over it. The proof computes them from the definitions.
+-- Document 01's examples of whole calls, some with a margin, and one in both units, as one list with one proof over it. The proof computes them from the
+-- definitions.
 use Prim.Native.Nat.{ℕ}
 use mathlib.Core.Path.{_≡_, refl}
 use mathlib.Core.List.{List, [], _∷_, map, flatMap}
@@ -33,20 +34,22 @@ use Rattle.meaning.specs.Start.{gathered, startKind, fixedCount, startMe
 use Rattle.meaning.specs.Input.{Input}
 use Rattle.meaning.specs.Answers.{faceVerdict, marginVerdict, contentsVerdict, verdictOf}
 use Rattle.meaning.specs.declared.Answer.{Answer}
-use Rattle.meaning.specs.Call.{coordinateBound}
 use Rattle.meaning.specs.Outcome.{rulesIn, startOf, targetOf, lastMesh, foldsWalked, partsIn, refusal, Outcome, outcomeBy, outcome, foldsBy, foldsOf, pairNumbers}
 
--- a mesh, its points by their bits, with a margin, a ratio by its bits, preserve on or off and a limit, and room for ten points and ten faces
-abbrev meshWith : (points faces margin : List ℕ) → ℕ → Bool → Limit → Input
-meshWith points faces margin ratio preserve limit =
+-- a mesh in a unit, its points by their bits, with a margin, a ratio by its bits, preserve on or off and a limit, and room for ten points and ten faces
+abbrev measured : (unit : ℕ) (points faces margin : List ℕ) → ℕ → Bool → Limit → Input
+measured unit points faces margin ratio preserve limit =
     record {
       points = map (ofBits binary32) points;
       faces = faces;
       margin = margin;
       rooms = record { points = 30; faces = 30; u32s = 480; f32s = 160; f64s = 220 };
-      options = record { ratio = ofBits binary32 ratio; preserve = preserve; limit = limit };
-      bound = coordinateBound;
+      options = record { unit = unit; ratio = ofBits binary32 ratio; preserve = preserve; limit = limit };
     }
+
+-- in millimetres
+abbrev meshWith : (points faces margin : List ℕ) → ℕ → Bool → Limit → Input
+meshWith = measured 1
 
 -- the example square: (0,0,0) (2,0,0) (2,2,0) (0,2,0) (1,1,0)
 abbrev held : (margin : List ℕ) → ℕ → Bool → Limit → Input
@@ -62,6 +65,23 @@ square = held []
 -- one triangle: (0,0,0) (1,0,0) (0,1,0)
 abbrev triangle : (margin : List ℕ) → ℕ → Bool → Limit → Input
 triangle = meshWith (0 ∷ 0 ∷ 0 ∷ 0x3f80_0000 ∷ 0 ∷ 0 ∷ 0 ∷ 0x3f80_0000 ∷ 0 ∷ []) (0 ∷ 1 ∷ 2 ∷ [])
+
+-- a ridge whose planes meet beyond 1,024: the ends (1024,0,1) and (1024,0,-1), and (1020,0,0) (1020,4,3) (1020,-4,3) (1020,4,-3) (1020,-4,-3), which are
+-- held; in a unit, at ratio 0.5
+abbrev ridge : (unit : ℕ) → Input
+ridge unit =
+    measured unit
+    (0x4480_0000 ∷ 0 ∷ 0x3f80_0000
+    ∷ 0x4480_0000 ∷ 0 ∷ 0xbf80_0000
+    ∷ 0x447f_0000 ∷ 0 ∷ 0
+    ∷ 0x447f_0000 ∷ 0x4080_0000 ∷ 0x4040_0000
+    ∷ 0x447f_0000 ∷ 0xc080_0000 ∷ 0x4040_0000
+    ∷ 0x447f_0000 ∷ 0x4080_0000 ∷ 0xc040_0000
+    ∷ 0x447f_0000 ∷ 0xc080_0000 ∷ 0xc040_0000
+    ∷ [])
+    (0 ∷ 1 ∷ 2 ∷ 0 ∷ 3 ∷ 4 ∷ 1 ∷ 5 ∷ 6 ∷ [])
+    (2 ∷ 3 ∷ 4 ∷ 5 ∷ 6 ∷ [])
+    0x3f00_0000 false Unlimited
 
 -- a call that is answered with 0: the points and faces written, and the folds made
 abbrev done : ℕ → ℕ → ℕ → Answer
@@ -84,7 +104,23 @@ pub record Example : Type 0 where
   pub input : Input
   pub out : Shown
 
--- document 01's examples, and some with a margin
+-- the ridge's ends joined, with the bits of the point that they became
+abbrev joined : (x y z : ℕ) → Shown
+joined x y z =
+    record {
+      answer = done 5 2 1;
+      points =
+          x ∷ y ∷ z
+          ∷ 0x447f_0000 ∷ 0x4080_0000 ∷ 0x4040_0000
+          ∷ 0x447f_0000 ∷ 0xc080_0000 ∷ 0x4040_0000
+          ∷ 0x447f_0000 ∷ 0x4080_0000 ∷ 0xc040_0000
+          ∷ 0x447f_0000 ∷ 0xc080_0000 ∷ 0xc040_0000
+          ∷ [];
+      faces = 0 ∷ 1 ∷ 2 ∷ 0 ∷ 3 ∷ 4 ∷ [];
+      folds = 0 ∷ 1 ∷ [];
+    }
+
+-- document 01's examples, some with a margin, and the ridge in both units
 abbrev pub examples : List Example
 examples =
     -- the example square at ratio 0.5: (0,1) is closed, and (0,4) folds
@@ -129,6 +165,9 @@ examples =
     ∷ record { input = held (0 ∷ 4 ∷ []) 0x3f00_0000 true Unlimited; out = record { answer = refusal 10 5; points = []; faces = []; folds = [] } }
     -- the triangle with the point 2 held: its one face is folded away, and the point is used no more
     ∷ record { input = triangle (2 ∷ []) 0x3f80_0000 false Unlimited; out = record { answer = done 0 0 1; points = []; faces = []; folds = 0 ∷ 1 ∷ [] } }
+    -- the ridge's planes meet at x = 1026: in millimetres, whose bound is 1,024, the ends' middle is taken; in micrometres the solved point is
+    ∷ record { input = ridge 1; out = joined 0x4480_0000 0 0 }
+    ∷ record { input = ridge 2; out = joined 0x4480_4000 0x8000_0000 0 }
     ∷ []
 
 -- they come out

@@ -1,4 +1,4 @@
--- The answer of a call and what comes out, for any input (document 01, "Answer numbers" and "Pairs, folds, ends"; document 02, wish 2).
+-- The answer of a call and what comes out, for any input (document 01, "Answer numbers" and "Pairs, folds, ends"; document 02, wishes 2 and 3).
 use Prim.Native.Nat.{ℕ}
 use mathlib.Core.List.{List, [], _∷_}
 use mathlib.Core.Bool.{Bool, true, false, _&&_, cond}
@@ -15,15 +15,15 @@ use Rattle.meaning.specs.Start.{fixedCount, startMesh}
 use Rattle.meaning.specs.Arithmetic.{rulesOf}
 use Rattle.meaning.specs.declared.Verdict.{Verdict}
 use Rattle.meaning.specs.declared.Verdict.the-variants.{Refused, Copied, Admitted}
-use Rattle.meaning.specs.Input.{Input, pointsIn, facesIn}
+use Rattle.meaning.specs.Input.{Input, pointsIn, facesIn, boundIn}
 use Rattle.meaning.specs.Answers.{verdictOf}
 use Rattle.meaning.specs.declared.Answer.{Answer}
 
 -- ---- the walk of an admitted mesh
 
--- the rules that the input's limit and bound make
+-- the rules that the input's limit and its unit's bound make
 abbrev pub rulesIn : Input → Rules Vertex
-rulesIn i = rulesOf (i .options .limit) (i .bound)
+rulesIn i = rulesOf (i .options .limit) (boundIn i)
 
 -- the state at the start
 unfoldable pub startOf : Input → State Vertex

@@ -4,7 +4,7 @@ use mathlib.Core.Path.{_≡_, refl}
 use mathlib.Core.List.{List, [], _∷_, map}
 use mathlib.Core.Bool.{true, false}
 use lib.IntN.{pos, negsuc}
-use lib.Ieee.{Float, nan, inf, fin, isNan, lt, le, eq, neg}
+use lib.Ieee.{Float, nan, inf, fin, isNan, lt, le, eq, neg, ofBits}
 use Rattle.lists.specs.Lists.{some, below, firstOf}
 use Rattle.placement.specs.declared.Limit.{Limit}
 use Rattle.placement.specs.declared.Limit.the-variants.{Unlimited, AtMost}
@@ -22,48 +22,61 @@ two = fin false 1 (pos 1)
 abbrev half : Float
 half = fin false 1 (negsuc 0)
 
--- 1,048,576.0
-abbrev most : Float
-most = fin false 1 (pos 20)
+-- 1,024.0 and 1,048,576.0
+abbrev mostMillimetres : Float
+mostMillimetres = fin false 1 (pos 10)
 
--- the next f32 above it
-abbrev above : Float
-above = fin false 8388609 (negsuc 2)
+abbrev mostMicrometres : Float
+mostMicrometres = fin false 1 (pos 20)
+
+-- the next f32 above each: 44800001 and 49800001
+abbrev aboveMillimetres : Float
+aboveMillimetres = fin false 8388609 (negsuc 12)
+
+abbrev aboveMicrometres : Float
+aboveMicrometres = fin false 8388609 (negsuc 2)
 
 -- -0.0
 abbrev minusZero : Float
 minusZero = fin true 0 (pos 0)
 
--- the square with a margin, its last coordinate, its last two point numbers, its ratio, its limit and the room for f64
-abbrev held : List ℕ → Float → ℕ → ℕ → Float → Limit → ℕ → Input
-held margin z b c ratio limit f64s =
+-- the square in a unit, with a margin, its last coordinate, its last two point numbers, its ratio, its limit and the room for f64
+abbrev measured : ℕ → List ℕ → Float → ℕ → ℕ → Float → Limit → ℕ → Input
+measured unit margin z b c ratio limit f64s =
     let o = zeroFloat in
     record {
       points = o ∷ o ∷ o ∷ two ∷ o ∷ o ∷ two ∷ two ∷ o ∷ o ∷ two ∷ o ∷ oneFloat ∷ oneFloat ∷ z ∷ [];
       faces = 0 ∷ 1 ∷ 4 ∷ 1 ∷ 2 ∷ 4 ∷ 2 ∷ 3 ∷ 4 ∷ 3 ∷ b ∷ c ∷ [];
       margin = margin;
       rooms = record { points = 15; faces = 12; u32s = 208; f32s = 68; f64s = f64s };
-      options = record { ratio = ratio; preserve = false; limit = limit };
-      bound = most;
+      options = record { unit = unit; ratio = ratio; preserve = false; limit = limit };
     }
 
--- and without one
+-- in millimetres
+abbrev held : List ℕ → Float → ℕ → ℕ → Float → Limit → ℕ → Input
+held = measured 1
+
+-- and without a margin
 abbrev square : Float → ℕ → ℕ → Float → Limit → ℕ → Input
 square = held []
+
+-- at ratio 0.5, without a limit: in a unit, with its last coordinate
+abbrev reaching : ℕ → Float → Input
+reaching unit z = measured unit [] z 0 4 half Unlimited 104
 
 -- inputs, each with its verdict
 abbrev pub cases : List (Input × Verdict)
 cases =
     (square zeroFloat 0 4 half Unlimited 104, Admitted)
     -- at the bound, ratio 1, limit 0
-    ∷ (square most 0 4 oneFloat (AtMost zeroFloat) 104, Admitted)
+    ∷ (square mostMillimetres 0 4 oneFloat (AtMost zeroFloat) 104, Admitted)
     -- one cell short; 3 comes before 5
     ∷ (square zeroFloat 0 4 nan Unlimited 103, Refused 3 0)
     -- 5 comes before 6, and 6 before 7
     ∷ (square zeroFloat 0 4 two (AtMost nan) 104, Refused 5 0)
     ∷ (square nan 0 4 half (AtMost nan) 104, Refused 6 0)
     -- the next float above the bound; 7 comes before ratio zero
-    ∷ (square above 0 4 zeroFloat Unlimited 104, Refused 7 14)
+    ∷ (square aboveMillimetres 0 4 zeroFloat Unlimited 104, Refused 7 14)
     ∷ (square (inf true) 0 4 half Unlimited 104, Refused 7 14)
     -- faces unchecked at ratio -0.0
     ∷ (square zeroFloat 5 5 minusZero Unlimited 104, Copied)
@@ -81,9 +94,29 @@ cases =
     -- 9 comes before 12, and ratio zero too
     ∷ (held (5 ∷ []) zeroFloat 3 4 half Unlimited 104, Refused 9 3)
     ∷ (held (5 ∷ []) zeroFloat 0 4 minusZero Unlimited 104, Copied)
+    -- 1,024 millimetres and -1,024, and the next float beyond each
+    ∷ (reaching 1 mostMillimetres, Admitted)
+    ∷ (reaching 1 aboveMillimetres, Refused 7 14)
+    ∷ (reaching 1 (neg mostMillimetres), Admitted)
+    ∷ (reaching 1 (neg aboveMillimetres), Refused 7 14)
+    -- micrometres: more than 1,024, then 1,048,576 and -1,048,576, and the next float beyond each
+    ∷ (reaching 2 aboveMillimetres, Admitted)
+    ∷ (reaching 2 mostMicrometres, Admitted)
+    ∷ (reaching 2 aboveMicrometres, Refused 7 14)
+    ∷ (reaching 2 (neg mostMicrometres), Admitted)
+    ∷ (reaching 2 (neg aboveMicrometres), Refused 7 14)
+    -- any other unit, of which no higher bit is dropped
+    ∷ (reaching 0 zeroFloat, Refused 24 0)
+    ∷ (reaching 3 zeroFloat, Refused 24 0)
+    ∷ (reaching 65537 zeroFloat, Refused 24 0)
+    ∷ (reaching 4294967295 zeroFloat, Refused 24 0)
+    -- 6 comes before 24, and 24 before 7 and before ratio zero
+    ∷ (measured 3 [] zeroFloat 0 4 half (AtMost nan) 104, Refused 6 0)
+    ∷ (reaching 3 nan, Refused 24 0)
+    ∷ (measured 0 [] zeroFloat 0 4 minusZero Unlimited 104, Refused 24 0)
     ∷ []
 
 -- the verdicts come out
 pub refusals-hold : map (λ c. verdictOf (c .0)) cases ≡ map (λ c. c .1) cases
-unfolding verdictOf contentsVerdict faceVerdict marginVerdict some firstOf below lt eq le neg isNan
+unfolding verdictOf contentsVerdict faceVerdict marginVerdict some firstOf below lt eq le neg isNan ofBits
 refusals-hold = refl

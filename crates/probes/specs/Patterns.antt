@@ -59,10 +59,6 @@ vertexFrom p i q j = record { point = pointFrom p i; quadric = quadricFrom q j; 
 abbrev pub bare : Point → Vertex
 bare p = record { point = p; quadric = zeroQuadric; kind = Free }
 
--- 1,048,576, the bound of places
-abbrev pub bound : Float
-bound = ofBits binary32 0x4980_0000
-
 -- ---- patterns out
 
 abbrev pub pointBits : Point → List ℕ
@@ -100,9 +96,9 @@ pub record Inverted (rows : List ℕ) (found : Bool) (first second third : List 
 unfoldable pub lengthPattern : List ℕ → ℕ
 lengthPattern b = toBits binary32 (pairLength (bare (pointFrom b 0)) (bare (pointFrom b 3)))
 
--- two points, each with its quadric: the place of their pair, and the error there
-unfoldable pub placePattern : List ℕ → List ℕ → List ℕ
-placePattern p q = pointBits (pairPlace bound (vertexFrom p 0 q 0) (vertexFrom p 3 q 10))
+-- a bound, and two points, each with its quadric: the place of their pair, and the error there
+unfoldable pub placePattern : ℕ → List ℕ → List ℕ → List ℕ
+placePattern bound p q = pointBits (pairPlace (ofBits binary32 bound) (vertexFrom p 0 q 0) (vertexFrom p 3 q 10))
 
-unfoldable pub costPattern : List ℕ → List ℕ → ℕ
-costPattern p q = toBits binary64 (pairCost bound (vertexFrom p 0 q 0) (vertexFrom p 3 q 10))
+unfoldable pub costPattern : ℕ → List ℕ → List ℕ → ℕ
+costPattern bound p q = toBits binary64 (pairCost (ofBits binary32 bound) (vertexFrom p 0 q 0) (vertexFrom p 3 q 10))

@@ -12,9 +12,6 @@ ghost use Prim.Native.Nat.{_+_, _≤_, _<_};
 ghost use lib.ListN.{length};
 ghost use Rattle.probes.specs.Patterns.{at32, at64, pointFrom, quadricFrom, rowFrom, vertexFrom, bare, rowBits, planePattern, errorPattern, Inverted, lengthPattern, placePattern, costPattern};
 
-// The largest size of a coordinate.
-const BOUND: f32 = 1048576.0;
-
 // The f32 of the pattern at a place.
 fn f32_at(bits: &[u32], at: usize) -> f32
     requires { ⌜ at < length (now bits) ⌝ }
@@ -163,14 +160,19 @@ pub extern "C" fn single_length(points: &[u32; 6]) -> u32
     bits_of_f32(placement::pair::pair_length(bare_from(points, 0), bare_from(points, 3)))
 }
 
-// The place of the pair of two points with their quadrics.
+// The place of the pair of two points with their quadrics. The bound is any pattern.
 #[no_mangle]
-pub extern "C" fn single_place(points: &[u32; 6], quadrics: &[u64; 20], out: &mut [u32; 3])
-    ensures { λ _. ⌜ now (out .exit) ≡ placePattern (now (points .entry)) (now (quadrics .entry)) ⌝ }
+pub extern "C" fn single_place(
+    bound: u32,
+    points: &[u32; 6],
+    quadrics: &[u64; 20],
+    out: &mut [u32; 3],
+)
+    ensures { λ _. ⌜ now (out .exit) ≡ placePattern bound (now (points .entry)) (now (quadrics .entry)) ⌝ }
 {
     let keep = vertex_from(points, 0, quadrics, 0);
     let remove = vertex_from(points, 3, quadrics, 10);
-    let place = placement::pair::pair_place(keep, remove, BOUND);
+    let place = placement::pair::pair_place(keep, remove, f32_of(bound));
     *out = [
         bits_of_f32(place.x),
         bits_of_f32(place.y),
@@ -180,10 +182,10 @@ pub extern "C" fn single_place(points: &[u32; 6], quadrics: &[u64; 20], out: &mu
 
 // The error there.
 #[no_mangle]
-pub extern "C" fn single_cost(points: &[u32; 6], quadrics: &[u64; 20]) -> u64
-    ensures { λ r. ⌜ r ≡ costPattern (now (points .entry)) (now (quadrics .entry)) ⌝ }
+pub extern "C" fn single_cost(bound: u32, points: &[u32; 6], quadrics: &[u64; 20]) -> u64
+    ensures { λ r. ⌜ r ≡ costPattern bound (now (points .entry)) (now (quadrics .entry)) ⌝ }
 {
     let keep = vertex_from(points, 0, quadrics, 0);
     let remove = vertex_from(points, 3, quadrics, 10);
-    bits_of_f64(placement::pair::pair_cost(keep, remove, BOUND))
+    bits_of_f64(placement::pair::pair_cost(keep, remove, f32_of(bound)))
 }

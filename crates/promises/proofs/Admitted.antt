@@ -15,8 +15,8 @@ use Rattle.bits.specs.Cut.{zeroFloat}
 use Rattle.walk.specs.Faces.{proper}
 use Rattle.meaning.specs.declared.Verdict.{Verdict}
 use Rattle.meaning.specs.declared.Verdict.the-variants.{Refused, Copied, Admitted}
-use Rattle.meaning.specs.Input.{Input, pointsIn, facesIn}
-use Rattle.meaning.specs.Answers.{uneven, large, short, empty, badRatio, badLimit, badCoordinate, andThen, faceVerdict, marginVerdict, contentsVerdict, verdictOf}
+use Rattle.meaning.specs.Input.{Input, pointsIn, facesIn, boundIn}
+use Rattle.meaning.specs.Answers.{uneven, large, short, empty, badRatio, badLimit, badUnit, badCoordinate, andThen, faceVerdict, marginVerdict, contentsVerdict, verdictOf}
 use Rattle.meaning.proofs.VerdictOrder.{admits, unrefused, past, each-admits}
 use Rattle.meaning.proofs.FaceVerdictLaws.{faces-proper-of}
 use Rattle.meaning.proofs.MarginVerdictLaws.{someBad, margin-good}
@@ -27,7 +27,7 @@ use Rattle.promises.specs.Finite.{small}
 pub record Checked (i : Input) (w : Verdict) : Type 0 where
   pub points-most : pointsIn i ≤ 65536
   pub faces-most : facesIn i ≤ 131072
-  pub coordinates-good : some (badCoordinate (i .bound)) (i .points) ≡ false
+  pub coordinates-good : some (badCoordinate (boundIn i)) (i .points) ≡ false
   pub then-lists :
       cond (eq (i .options .ratio) zeroFloat) Copied (andThen (faceVerdict (pointsIn i) 0 (givenFaces i)) (marginVerdict (pointsIn i) (i .margin))) ≡ w
 
@@ -40,7 +40,8 @@ checked i w fine told =
     let four = past unrefused (empty (pointsIn i) (facesIn i)) (Refused 4 0) _ refl fine (three .1) in
     let five = past unrefused (badRatio (i .options .ratio)) (Refused 5 0) _ refl fine (four .1) in
     let six = past unrefused (badLimit (i .options .limit)) (Refused 6 0) _ refl fine (five .1) in
-    let seven = past unrefused (some (badCoordinate (i .bound)) (i .points)) (Refused 7 _) _ refl fine (six .1) in
+    let unit = past unrefused (badUnit (i .options .unit)) (Refused 24 0) _ refl fine (six .1) in
+    let seven = past unrefused (some (badCoordinate (boundIn i)) (i .points)) (Refused 7 _) _ refl fine (unit .1) in
     let few = neither-of (ltb 65536 (pointsIn i)) (ltb 131072 (facesIn i)) (two .0) in
     record {
       points-most = ltb-false 65536 (pointsIn i) (few .0);
@@ -50,14 +51,14 @@ checked i w fine told =
     }
 
 -- every coordinate is finite and at most the bound in size
-pub checked-small : {i : Input} {w : Verdict} → Checked i w → every (small (i .bound)) (i .points) ≡ true
-checked-small {i} found = none-every (badCoordinate (i .bound)) (i .points) (found .coordinates-good)
+pub checked-small : {i : Input} {w : Verdict} → Checked i w → every (small (boundIn i)) (i .points) ≡ true
+checked-small {i} found = none-every (badCoordinate (boundIn i)) (i .points) (found .coordinates-good)
 
 -- what the walk needs of what was checked
 pub record Passed (i : Input) : Type 0 where
   pub points-most : pointsIn i ≤ 65536
   pub faces-most : facesIn i ≤ 131072
-  pub coordinates-small : every (small (i .bound)) (i .points) ≡ true
+  pub coordinates-small : every (small (boundIn i)) (i .points) ≡ true
   pub ratio-above : eq (i .options .ratio) zeroFloat ≡ false
   pub faces-proper : every (proper (pointsIn i)) (givenFaces i) ≡ true
   pub entries-good : someBad (pointsIn i) (i .margin) ≡ false

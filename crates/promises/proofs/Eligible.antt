@@ -17,7 +17,7 @@ use Rattle.walk.specs.declared.Pair.{Pair}
 use Rattle.walk.specs.Pairs.{eligiblePair}
 use Rattle.walk.specs.Walk.{folded}
 use Rattle.walk.proofs.EligibleLaws.{started-eligible, walk-eligible, folded-eligible}
-use Rattle.meaning.specs.Input.{Input, pointsIn, facesIn}
+use Rattle.meaning.specs.Input.{Input, pointsIn, facesIn, boundIn}
 use Rattle.meaning.specs.Arithmetic.{rulesOf}
 use Rattle.meaning.specs.Start.{startMesh}
 use Rattle.meaning.specs.Outcome.{rulesIn, startOf, targetOf}
@@ -48,16 +48,16 @@ module _ (i : Input) (n : ℕ) where
       (started-eligible (rulesIn i) (startMesh (pointsIn i) (facesIn i) (i .points) (i .faces) (i .options .preserve) (i .margin)))
 
   -- so its cost is finite
-  pub costs-finite : every (λ p. finite (pairCost (i .bound) (carried i n (p .keep)) (carried i n (p .remove)))) (stateAt i n .«open») ≡ true
+  pub costs-finite : every (λ p. finite (pairCost (boundIn i) (carried i n (p .keep)) (carried i n (p .remove)))) (stateAt i n .«open») ≡ true
   unfolding rulesOf
   costs-finite =
-      every-implies (eligiblePair (rulesIn i) (stateAt i n .mesh)) (λ p. finite (pairCost (i .bound) (carried i n (p .keep)) (carried i n (p .remove))))
-      (λ p e. eligible-fit (i .options .limit) (i .bound) (carried i n (p .keep)) (carried i n (p .remove)) e .cost-finite)
+      every-implies (eligiblePair (rulesIn i) (stateAt i n .mesh)) (λ p. finite (pairCost (boundIn i) (carried i n (p .keep)) (carried i n (p .remove))))
+      (λ p e. eligible-fit (i .options .limit) (boundIn i) (carried i n (p .keep)) (carried i n (p .remove)) e .cost-finite)
       (stateAt i n .«open») open-eligible
 
   -- and a pair that is folded was eligible
-  pub folded-fit : (p : Pair) → answerAt i n ≡ folded p → Fit (i .options .limit) (i .bound) (carried i n (p .keep)) (carried i n (p .remove))
+  pub folded-fit : (p : Pair) → answerAt i n ≡ folded p → Fit (i .options .limit) (boundIn i) (carried i n (p .keep)) (carried i n (p .remove))
   unfolding rulesOf
   folded-fit p e =
-      eligible-fit (i .options .limit) (i .bound) (carried i n (p .keep)) (carried i n (p .remove))
+      eligible-fit (i .options .limit) (boundIn i) (carried i n (p .keep)) (carried i n (p .remove))
       (folded-eligible (rulesIn i) (targetOf i) (stateAt i n) p open-eligible e)

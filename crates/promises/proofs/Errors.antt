@@ -24,16 +24,14 @@ use Rattle.walk.proofs.FaceLaws.{held-below}
 use Rattle.walk.proofs.SoundLaws.{isOpen, open-shared}
 use Rattle.meaning.specs.declared.Verdict.the-variants.{Admitted}
 use Rattle.meaning.specs.Arithmetic.{rulesOf}
-use Rattle.meaning.specs.declared.Options.{Options}
-use Rattle.meaning.specs.Call.{coordinateBound, Lent, inputOf}
-use Rattle.meaning.specs.Input.{Input}
+use Rattle.meaning.specs.Input.{Input, boundIn}
 use Rattle.meaning.specs.Answers.{verdictOf}
 use Rattle.meaning.specs.Outcome.{rulesIn, startOf, targetOf}
 use Rattle.promises.specs.Steps.{stateAt, carried}
 use Rattle.promises.specs.Finite.{smallVertex, power}
 use Rattle.promises.specs.Errors.{held, PairFinite}
 use Rattle.promises.proofs.Bounded.{small-within, within-wider, middle-within, place-within}
-use Rattle.promises.proofs.Finite.{document-bound, data-small, walk-finite}
+use Rattle.promises.proofs.Finite.{powerIn, power-in, power-most, data-small, walk-finite}
 use Rattle.promises.proofs.ErrorsPlanes.{length-finite}
 use Rattle.promises.proofs.ErrorsQuadrics.{QuadricWithin, quadric-wider, error-finite}
 use Rattle.promises.proofs.Weights.{shared-held, Weighed, two-weights, pair-within, walk-weighed}
@@ -69,11 +67,11 @@ by-rest limit {bound} {keep} {remove} known =
 
 -- ---- in every state that the walk reaches
 
-module _ (i : Input) (b : ℕ) (fits : b ≤ 20) (is-power : i .bound ≡ power b) (admitted : verdictOf i ≡ Admitted) (n : ℕ) where
+module _ (i : Input) (admitted : verdictOf i ≡ Admitted) (n : ℕ) where
   -- it is sound, and the quadrics have their weights
-  reached : Sound (stateAt i n) × Weighed (i .options .limit) (i .bound) (stateAt i n .mesh)
+  reached : Sound (stateAt i n) × Weighed (i .options .limit) (boundIn i) (stateAt i n .mesh)
   reached =
-      walk-weighed (i .options .limit) (i .bound) (targetOf i) n (startOf i) (start-sound i admitted) (start-weighed i b fits is-power admitted)
+      walk-weighed (i .options .limit) (boundIn i) (targetOf i) n (startOf i) (start-sound i admitted) (start-weighed i admitted)
 
   -- a point that a live face holds is one that there is
   held-inside : (x : ℕ) → held (stateAt i n .mesh .faces) x → x < length (stateAt i n .mesh .points)
@@ -83,19 +81,20 @@ module _ (i : Input) (b : ℕ) (fits : b ≤ 20) (is-power : i .bound ≡ power 
       held-below v (w .0) x (w .1) (flag-true (holds x (w .0)) (w .2))
 
   -- every two points that live faces hold make a pair whose numbers are finite
-  pub pairs-finite : (x y : ℕ) → held (stateAt i n .mesh .faces) x → held (stateAt i n .mesh .faces) y → PairFinite (i .bound) (carried i n x) (carried i n y)
+  pub pairs-finite : (x y : ℕ) → held (stateAt i n .mesh .faces) x → held (stateAt i n .mesh .faces) y → PairFinite (boundIn i) (carried i n x) (carried i n y)
   pairs-finite x y x-held y-held =
-      let small = walk-finite i b (omega arith) is-power admitted n in
+      let small = walk-finite i admitted n in
+      let fits = power-most i in
       let x-v = held-inside x x-held in
       let y-v = held-inside y y-held in
-      pair-finite b _ fits is-power (carried i n x) (carried i n y)
-      (data-small (i .options .limit) b (omega arith) is-power (stateAt i n .mesh) small x)
-      (data-small (i .options .limit) b (omega arith) is-power (stateAt i n .mesh) small y)
-      (two-weights (i .options .limit) (i .bound) (stateAt i n .mesh) (reached .1) x y x-v y-v)
-      (pair-within (i .options .limit) (i .bound) (stateAt i n .mesh) (reached .1) x y x-v y-v x-held y-held)
+      pair-finite (powerIn i) _ fits (power-in i) (carried i n x) (carried i n y)
+      (data-small (i .options .limit) (powerIn i) (omega arith) (power-in i) (stateAt i n .mesh) small x)
+      (data-small (i .options .limit) (powerIn i) (omega arith) (power-in i) (stateAt i n .mesh) small y)
+      (two-weights (i .options .limit) (boundIn i) (stateAt i n .mesh) (reached .1) x y x-v y-v)
+      (pair-within (i .options .limit) (boundIn i) (stateAt i n .mesh) (reached .1) x y x-v y-v x-held y-held)
 
   -- so the numbers of every open pair are: the walk compares finite costs
-  pub open-finite : (p : Pair) → isOpen (stateAt i n) p → PairFinite (i .bound) (carried i n (p .keep)) (carried i n (p .remove))
+  pub open-finite : (p : Pair) → isOpen (stateAt i n) p → PairFinite (boundIn i) (carried i n (p .keep)) (carried i n (p .remove))
   open-finite p is-open =
       let both = shared-held (stateAt i n .mesh .faces) (p .keep) (p .remove) (open-shared (stateAt i n) (reached .0) p is-open) in
       pairs-finite (p .keep) (p .remove) (both .0) (both .1)
@@ -107,9 +106,3 @@ module _ (i : Input) (b : ℕ) (fits : b ≤ 20) (is-power : i .bound ≡ power 
       ≡ (not (fixed (carried i n x .kind) || fixed (carried i n y .kind)) && not (aboveLimit (pairLength (carried i n x) (carried i n y)) (i .options .limit)))
   unfolding rulesOf
   eligible-alone x y x-held y-held = by-rest (i .options .limit) (pairs-finite x y x-held y-held)
-
--- with document 01's bound, of any call that is admitted
-pub called-open-finite :
-    (points : List Float) (faces margin : List ℕ) (options : Options) (b : Lent) → let i = inputOf points faces margin options b in
-    verdictOf i ≡ Admitted → (n : ℕ) (p : Pair) → isOpen (stateAt i n) p → PairFinite coordinateBound (carried i n (p .keep)) (carried i n (p .remove))
-called-open-finite points faces margin options b admitted n = open-finite (inputOf points faces margin options b) 20 (omega arith) document-bound admitted n

@@ -1,5 +1,5 @@
 -- The number and place of every answer are those that the table gives, exactly: `exactly-when`.
--- Asks of an input only that its bound is 1,048,576, which the input of every call has (`call-exactly-when`).
+-- Assumes nothing.
 use Prim.Native.Nat.{ℕ, _≤_, _<_}
 use native.Mathlib.Omega.{arith}
 use mathlib.Core.Path.{_≡_, refl, sym, ap, _∙_}
@@ -18,23 +18,21 @@ use Rattle.bits.specs.Cut.{zeroFloat}
 use Rattle.placement.specs.Choices.{fixed}
 use Rattle.walk.specs.declared.Pair.{Pair}
 use Rattle.walk.specs.Faces.{faceAt}
-use Rattle.meaning.specs.declared.Options.{Options}
 use Rattle.meaning.specs.declared.Verdict.{Verdict}
 use Rattle.meaning.specs.declared.Verdict.the-variants.{Refused, Copied, Admitted}
-use Rattle.meaning.specs.Input.{Input, pointsIn, facesIn}
-use Rattle.meaning.specs.Answers.{uneven, large, short, empty, badRatio, badLimit, badCoordinate, outside, badEntry, verdictOf}
+use Rattle.meaning.specs.Input.{Input, pointsIn, facesIn, boundIn}
+use Rattle.meaning.specs.Answers.{uneven, large, short, empty, badRatio, badLimit, badUnit, badCoordinate, outside, badEntry, verdictOf}
 use Rattle.meaning.specs.Start.{startKind, fixedCount}
 use Rattle.meaning.specs.Outcome.{targetOf, foldsWalked, stuck, fixedIn, stuckAnswer, outcome, outcomeBy}
-use Rattle.meaning.specs.Call.{Lent, inputOf, coordinateBound}
 use Rattle.meaning.proofs.FaceVerdictLaws.{badFace}
 use Rattle.meaning.proofs.MarginVerdictLaws.{someBad}
 use Rattle.promises.specs.Steps.{budgetOf, givenFaces, fixedPoint}
-use Rattle.promises.specs.Table.{BadFace, BadEntry, Doubled, Outside, WalkEnds, fixedPoints, First, None, Past1, Past2, Past3, Past4, Past5, Past6, Past7, PastZero, Past9, Past12, Given, row-1, row-2, row-3, row-4, row-5, row-6, row-7, row-zero, row-8, row-9, row-12, row-10, row-11, row-0}
+use Rattle.promises.specs.Table.{BadFace, BadEntry, Doubled, Outside, WalkEnds, fixedPoints, First, None, Past1, Past2, Past3, Past4, Past5, Past6, Past24, Past7, PastZero, Past9, Past12, Given, row-1, row-2, row-3, row-4, row-5, row-6, row-24, row-7, row-zero, row-8, row-9, row-12, row-10, row-11, row-0}
 use Rattle.promises.proofs.Ended.{walk-has-ended, wherever-ended}
 use Rattle.promises.proofs.Fixed.{kind-fixed}
 use Rattle.promises.proofs.Says.{not-so, first-says, none-says}
-use Rattle.promises.proofs.Words.{says-uneven, says-large, says-short, says-empty, says-ratio, says-limit, says-zero, says-outside}
-use Rattle.promises.proofs.Rows.{verdict-1, verdict-2, verdict-3, verdict-4, verdict-5, verdict-6, verdict-7, verdict-zero, verdict-8, verdict-9, verdict-12, verdict-admitted, each-coordinate, each-face, faces-many, firstFace, each-entry, entries, entries-many}
+use Rattle.promises.proofs.Words.{says-uneven, says-large, says-short, says-empty, says-ratio, says-limit, says-unit, says-zero, says-outside}
+use Rattle.promises.proofs.Rows.{verdict-1, verdict-2, verdict-3, verdict-4, verdict-5, verdict-6, verdict-24, verdict-7, verdict-zero, verdict-8, verdict-9, verdict-12, verdict-admitted, each-coordinate, each-face, faces-many, firstFace, each-entry, entries, entries-many}
 
 -- a number and a place are the outcome's
 abbrev Answers : Input → ℕ → ℕ → Type 0
@@ -100,28 +98,29 @@ module _ (i : Input) (admitted : verdictOf i ≡ Admitted) where
 
 -- ---- each row gives its number and its place
 
-module _ (i : Input) (bounded : i .bound ≡ coordinateBound) where
+module _ (i : Input) where
   -- what the table gives is the answer
   pub given-answers : {n p : ℕ} → Given i n p → (outcome i .answer .number ≡ n) × (outcome i .answer .place ≡ p)
-  given-answers (row-1 u) = refused i (verdict-1 i bounded u)
-  given-answers (row-2 p l) = refused i (verdict-2 i bounded p l)
-  given-answers (row-3 p s) = refused i (verdict-3 i bounded p s)
-  given-answers (row-4 p e) = refused i (verdict-4 i bounded p e)
-  given-answers (row-5 p b) = refused i (verdict-5 i bounded p b)
-  given-answers (row-6 p b) = refused i (verdict-6 i bounded p b)
-  given-answers (row-7 p f) = refused i (verdict-7 i bounded p f)
-  given-answers (row-zero p z) = copied i (verdict-zero i bounded p z)
-  given-answers (row-8 p f o) = refused i (verdict-8 i bounded p f o)
-  given-answers (row-9 p f o d) = refused i (verdict-9 i bounded p f o)
-  given-answers (row-12 p f) = refused i (verdict-12 i bounded p f)
+  given-answers (row-1 u) = refused i (verdict-1 i u)
+  given-answers (row-2 p l) = refused i (verdict-2 i p l)
+  given-answers (row-3 p s) = refused i (verdict-3 i p s)
+  given-answers (row-4 p e) = refused i (verdict-4 i p e)
+  given-answers (row-5 p b) = refused i (verdict-5 i p b)
+  given-answers (row-6 p b) = refused i (verdict-6 i p b)
+  given-answers (row-24 p b) = refused i (verdict-24 i p b)
+  given-answers (row-7 p f) = refused i (verdict-7 i p f)
+  given-answers (row-zero p z) = copied i (verdict-zero i p z)
+  given-answers (row-8 p f o) = refused i (verdict-8 i p f o)
+  given-answers (row-9 p f o d) = refused i (verdict-9 i p f o)
+  given-answers (row-12 p f) = refused i (verdict-12 i p f)
   given-answers (row-10 p none above least) =
-      let admitted = verdict-admitted i bounded p in
+      let admitted = verdict-admitted i p in
       rw (fixed-counted i, lt-ltb 0 (fixedPoints i) least) at (stuck-answers i admitted (is-stuck i admitted none above))
   given-answers (row-11 p none above free) =
-      let admitted = verdict-admitted i bounded p in
+      let admitted = verdict-admitted i p in
       rw (fixed-counted i, free) at (stuck-answers i admitted (is-stuck i admitted none above))
   given-answers (row-0 p makes either) =
-      let admitted = verdict-admitted i bounded p in
+      let admitted = verdict-admitted i p in
       thinned-answers i admitted (not-stuck i admitted makes either)
 
   -- ---- some row holds of every input
@@ -129,7 +128,7 @@ module _ (i : Input) (bounded : i .bound ≡ coordinateBound) where
   -- of one that the walk is made for
   walk-row : Past12 i → Some i
   walk-row p =
-      let makes = ends i (verdict-admitted i bounded p) in
+      let makes = ends i (verdict-admitted i p) in
       by-test (ltb (targetOf i) (facesIn i))
       (λ above. by-list (foldsWalked i)
       (λ none. stuck-row (rw none at makes) (ltb-true (targetOf i) (facesIn i) above))
@@ -167,30 +166,30 @@ module _ (i : Input) (bounded : i .bound ≡ coordinateBound) where
       by-test (some (badFace (pointsIn i)) (givenFaces i))
       (λ t.
       let k = firstOf (badFace (pointsIn i)) (givenFaces i) in
-      let found = first-says (badFace (pointsIn i)) (firstFace i bounded) (givenFaces i) (each-face i bounded) (first-of (badFace (pointsIn i)) (firstFace i bounded) (givenFaces i) t) in
-      let f : First (BadFace i) (facesIn i) k = rw (faces-many i bounded) at found in
+      let found = first-says (badFace (pointsIn i)) (firstFace i) (givenFaces i) (each-face i) (first-of (badFace (pointsIn i)) (firstFace i) (givenFaces i) t) in
+      let f : First (BadFace i) (facesIn i) k = rw (faces-many i) at found in
       by-test (outside (pointsIn i) (faceAt (i .faces) k))
       (λ o. (8, k, row-8 p f (says-outside i k .holds o)))
       (λ o. let inside = not-so (says-outside i k) o in (9, k, row-9 p f inside (doubled-so k inside (f .here)))))
       (λ none.
-      let all = none-says (badFace (pointsIn i)) (firstFace i bounded) (givenFaces i) (each-face i bounded) none in
-      let every-face : None (BadFace i) (facesIn i) = rw (faces-many i bounded) at all in
+      let all = none-says (badFace (pointsIn i)) (firstFace i) (givenFaces i) (each-face i) none in
+      let every-face : None (BadFace i) (facesIn i) = rw (faces-many i) at all in
       margin-row (p, every-face))
     where
       doubled-so : (k : ℕ) → ¬ Outside i k → BadFace i k → Doubled i k
       doubled-so k inside bad = ⊎-elim (λ o. absurd (inside o)) (λ d. d) bad
 
   -- of one whose coordinates are looked at
-  contents-row : Past6 i → Some i
+  contents-row : Past24 i → Some i
   contents-row p =
-      by-test (some (badCoordinate (i .bound)) (i .points))
+      by-test (some (badCoordinate (boundIn i)) (i .points))
       (λ t. (
         7,
-        firstOf (badCoordinate (i .bound)) (i .points),
-        row-7 p (first-says (badCoordinate (i .bound)) nan (i .points) (each-coordinate i bounded) (first-of (badCoordinate (i .bound)) nan (i .points) t)),
+        firstOf (badCoordinate (boundIn i)) (i .points),
+        row-7 p (first-says (badCoordinate (boundIn i)) nan (i .points) (each-coordinate i) (first-of (badCoordinate (boundIn i)) nan (i .points) t)),
       ))
       (λ none.
-      let past : Past7 i = (p, none-says (badCoordinate (i .bound)) nan (i .points) (each-coordinate i bounded) none) in
+      let past : Past7 i = (p, none-says (badCoordinate (boundIn i)) nan (i .points) (each-coordinate i) none) in
       by-test (eq (i .options .ratio) zeroFloat)
       (λ z. (0, 0, row-zero past z))
       (λ above. faces-row (past, not-so (says-zero i) above)))
@@ -210,7 +209,9 @@ module _ (i : Input) (bounded : i .bound ≡ coordinateBound) where
       (λ t. (5, 0, row-5 p4 (says-ratio i .holds t)))
       (λ f5. let p5 : Past5 i = (p4, not-so (says-ratio i) f5) in by-test (badLimit (i .options .limit))
       (λ t. (6, 0, row-6 p5 (says-limit i .holds t)))
-      (λ f6. contents-row (p5, not-so (says-limit i) f6)))))))
+      (λ f6. let p6 : Past6 i = (p5, not-so (says-limit i) f6) in by-test (badUnit (i .options .unit))
+      (λ t. (24, 0, row-24 p6 (says-unit i .holds t)))
+      (λ f24. contents-row (p6, not-so (says-unit i) f24))))))))
 
   -- ---- exactly when
 
@@ -235,8 +236,3 @@ module _ (i : Input) (bounded : i .bound ≡ coordinateBound) where
       let said = given-answers a in
       let also = given-answers b in
       (sym (said .0) ∙ also .0, sym (said .1) ∙ also .1)
-
--- the same of a call: its input's bound is 1,048,576
-pub call-exactly-when : (points : List Float) (faces margin : List ℕ) (options : Options) (before : Lent) (n p : ℕ) →
-    let i = inputOf points faces margin options before in ((outcome i .answer .number ≡ n) × (outcome i .answer .place ≡ p)) ↔ Given i n p
-call-exactly-when points faces margin options before = exactly-when (inputOf points faces margin options before) refl

@@ -1,12 +1,16 @@
 -- Every coordinate of every point is finite and at most the bound in size: at the start, after each step of the walk, and in what comes out, removed
--- points included. The bound is a power of two up to 2^126; document 01's is 2^20 (`document-bound`). Assumes nothing.
+-- points included. The bound is the unit's, a power of two (`unit-power`); the walk's laws hold of any up to 2^126. Assumes nothing.
 use Prim.Native.Nat.{ℕ, _+_, _*_, _≤_, _<_}
 use native.Mathlib.Omega.{arith}
-use mathlib.Core.Path.{_≡_, refl}
+use mathlib.Core.Path.{_≡_, refl, ap, _∙_}
 use mathlib.Core.List.{List, [], _∷_}
 use mathlib.Core.Bool.{true, _&&_}
 use mathlib.Mathlib.Data.Bool.Basic.{and-elim-left, and-elim-right}
 use lib.Ieee.{Float, nan, ofBits}
+use Rattle.units.specs.declared.Unit.{Unit}
+use Rattle.units.specs.declared.Unit.the-variants.{Millimetre, Micrometre}
+use Rattle.units.specs.Units.{unitNumber, unitBound, unitOf}
+use Rattle.units.proofs.UnitLaws.{unit-of-number}
 use Rattle.lists.specs.Lists.{every}
 use Rattle.lists.proofs.TestLaws.{by-test}
 use Rattle.lists.proofs.EveryLaws.{every-at, every-default, every-set}
@@ -23,20 +27,39 @@ use Rattle.meaning.specs.declared.Verdict.{Verdict}
 use Rattle.meaning.specs.declared.Verdict.the-variants.{Refused, Copied, Admitted}
 use Rattle.meaning.specs.Arithmetic.{mergedVertex, rulesOf}
 use Rattle.meaning.specs.Start.{startMesh}
-use Rattle.meaning.specs.Input.{Input, pointsIn, pointAt}
+use Rattle.meaning.specs.Input.{Input, pointsIn, pointAt, boundIn}
 use Rattle.meaning.specs.Answers.{verdictOf}
 use Rattle.meaning.specs.declared.Options.{Options}
-use Rattle.meaning.specs.Call.{coordinateBound, Lent, inputOf}
+use Rattle.meaning.specs.Call.{Lent, inputOf}
 use Rattle.meaning.specs.Outcome.{rulesIn, startOf, targetOf, lastMesh, partsIn, outcome, outcomeBy, stuck}
 use Rattle.promises.specs.Steps.{stateAt}
 use Rattle.promises.specs.Finite.{small, smallPoint, smallVertex, SmallMesh, power}
 use Rattle.promises.proofs.Bounded.{small-within, within-small, nought-most, place-within}
 use Rattle.promises.proofs.Admitted.{checked, checked-small, passed}
 
--- document 01's bound is a power of two
-pub document-bound : coordinateBound ≡ power 20
+-- a unit's bound is a power of two: 2^10 and 2^20
+abbrev pub unitPower : Unit → ℕ
+unitPower Millimetre = 10
+unitPower Micrometre = 20
+
+pub unit-power : (u : Unit) → unitBound u ≡ power (unitPower u)
 unfolding ofBits
-document-bound = refl
+unit-power Millimetre = refl
+unit-power Micrometre = refl
+
+pub unit-power-most : (u : Unit) → unitPower u ≤ 20
+unit-power-most Millimetre = omega arith
+unit-power-most Micrometre = omega arith
+
+-- the power of an input's bound
+abbrev pub powerIn : Input → ℕ
+powerIn i = unitPower (unitOf (i .options .unit))
+
+pub power-in : (i : Input) → boundIn i ≡ power (powerIn i)
+power-in i = unit-power (unitOf (i .options .unit))
+
+pub power-most : (i : Input) → powerIn i ≤ 20
+power-most i = unit-power-most (unitOf (i .options .unit))
 
 -- ---- the walk
 
@@ -76,53 +99,57 @@ module _ (limit : Limit) {bound : Float} (b : ℕ) (fits : b ≤ 126) (is-power 
 -- ---- the start
 
 -- a point of an input whose coordinates 7 lets pass
-pub point-small : (i : Input) → every (small (i .bound)) (i .points) ≡ true → (x : ℕ) → x < pointsIn i → smallPoint (i .bound) (pointAt (i .points) x) ≡ true
+pub point-small : (i : Input) → every (small (boundIn i)) (i .points) ≡ true → (x : ℕ) → x < pointsIn i → smallPoint (boundIn i) (pointAt (i .points) x) ≡ true
 point-small i all x inside =
     rw (
-      every-at (small (i .bound)) nan (i .points) all (3 * x) (omega arith),
-      every-at (small (i .bound)) nan (i .points) all (3 * x + 1) (omega arith),
-      every-at (small (i .bound)) nan (i .points) all (3 * x + 2) (omega arith),
+      every-at (small (boundIn i)) nan (i .points) all (3 * x) (omega arith),
+      every-at (small (boundIn i)) nan (i .points) all (3 * x + 1) (omega arith),
+      every-at (small (boundIn i)) nan (i .points) all (3 * x + 2) (omega arith),
     )
 
 -- the start of such an input
-start-small : (i : Input) → every (small (i .bound)) (i .points) ≡ true → SmallMesh (i .bound) (startOf i .mesh)
+start-small : (i : Input) → every (small (boundIn i)) (i .points) ≡ true → SmallMesh (boundIn i) (startOf i .mesh)
 unfolding startOf started startMesh
-start-small i all = every-below (smallVertex (i .bound)) _ (pointsIn i) (point-small i all)
+start-small i all = every-below (smallVertex (boundIn i)) _ (pointsIn i) (point-small i all)
 
--- ---- from an input, whose bound is a power of two
+-- ---- from an input
 
-module _ (i : Input) (b : ℕ) (fits : b ≤ 126) (is-power : i .bound ≡ power b) where
+module _ (i : Input) where
+  -- f32 has the double of its bound
+  power-fits : powerIn i ≤ 126
+  power-fits = omega (arith, power-most i)
+
   -- after any number of steps every coordinate of every point is finite and at most the bound in size
-  pub walk-finite : verdictOf i ≡ Admitted → (n : ℕ) → SmallMesh (i .bound) (stateAt i n .mesh)
+  pub walk-finite : verdictOf i ≡ Admitted → (n : ℕ) → SmallMesh (boundIn i) (stateAt i n .mesh)
   walk-finite admitted n =
-      walk-small (i .options .limit) b fits is-power (targetOf i) n (startOf i) (start-small i (passed i admitted .coordinates-small))
+      walk-small (i .options .limit) (powerIn i) power-fits (power-in i) (targetOf i) n (startOf i) (start-small i (passed i admitted .coordinates-small))
 
   -- and so in the mesh at the end
-  pub last-finite : verdictOf i ≡ Admitted → SmallMesh (i .bound) (lastMesh i)
+  pub last-finite : verdictOf i ≡ Admitted → SmallMesh (boundIn i) (lastMesh i)
   unfolding lastMesh
   last-finite admitted = walk-finite admitted _
 
   -- the parts of points of a mesh
-  parts-small : (m : Mesh Vertex) → SmallMesh (i .bound) m → (xs : List ℕ) → every (small (i .bound)) (partsIn (rulesIn i) m xs) ≡ true
+  parts-small : (m : Mesh Vertex) → SmallMesh (boundIn i) m → (xs : List ℕ) → every (small (boundIn i)) (partsIn (rulesIn i) m xs) ≡ true
   unfolding partsIn every
   parts-small m all [] = refl
   parts-small m all (x ∷ xs) =
       let v = dataOf (rulesIn i) m x in
-      let three : smallVertex (i .bound) v ≡ true = data-small (i .options .limit) b fits is-power m all x in
-      let two = and-elim-left (small (i .bound) (v .point .x) && small (i .bound) (v .point .y)) (small (i .bound) (v .point .z)) three in
+      let three : smallVertex (boundIn i) v ≡ true = data-small (i .options .limit) (powerIn i) power-fits (power-in i) m all x in
+      let two = and-elim-left (small (boundIn i) (v .point .x) && small (boundIn i) (v .point .y)) (small (boundIn i) (v .point .z)) three in
       rw (
-        and-elim-left (small (i .bound) (v .point .x)) (small (i .bound) (v .point .y)) two,
-        and-elim-right (small (i .bound) (v .point .x)) (small (i .bound) (v .point .y)) two,
-        and-elim-right (small (i .bound) (v .point .x) && small (i .bound) (v .point .y)) (small (i .bound) (v .point .z)) three,
+        and-elim-left (small (boundIn i) (v .point .x)) (small (boundIn i) (v .point .y)) two,
+        and-elim-right (small (boundIn i) (v .point .x)) (small (boundIn i) (v .point .y)) two,
+        and-elim-right (small (boundIn i) (v .point .x) && small (boundIn i) (v .point .y)) (small (boundIn i) (v .point .z)) three,
         parts-small m all xs,
       )
 
   -- and in what comes out, whatever the answer
-  pub outcome-finite : every (small (i .bound)) (outcome i .points) ≡ true
+  pub outcome-finite : every (small (boundIn i)) (outcome i .points) ≡ true
   unfolding outcome outcomeBy every
   outcome-finite = by-verdict (verdictOf i) refl
     where
-      by-verdict : (w : Verdict) → verdictOf i ≡ w → every (small (i .bound)) (outcomeBy w i .points) ≡ true
+      by-verdict : (w : Verdict) → verdictOf i ≡ w → every (small (boundIn i)) (outcomeBy w i .points) ≡ true
       by-verdict (Refused number place) e = refl
       by-verdict Copied e = checked-small (checked i Copied refl e)
       by-verdict Admitted e =
@@ -130,8 +157,10 @@ module _ (i : Input) (b : ℕ) (fits : b ≤ 126) (is-power : i .bound ≡ power
           (λ t. rw t)
           (λ t. rw t (parts-small (lastMesh i) (last-finite e) (used [] (lastMesh i .faces))))
 
--- with document 01's bound, of any call
+-- so a call in a unit writes coordinates that are finite and at most that unit's bound in size
 pub called-finite :
-    (points : List Float) (faces margin : List ℕ) (options : Options) (b : Lent)
-    → every (small coordinateBound) (outcome (inputOf points faces margin options b) .points) ≡ true
-called-finite points faces margin options b = outcome-finite (inputOf points faces margin options b) 20 (omega arith) document-bound
+    (points : List Float) (faces margin : List ℕ) (options : Options) (b : Lent) (unit : Unit) → options .unit ≡ unitNumber unit
+    → every (small (unitBound unit)) (outcome (inputOf points faces margin options b) .points) ≡ true
+called-finite points faces margin options b unit e =
+    let of-number : unitOf (options .unit) ≡ unit = ap unitOf e ∙ unit-of-number unit in
+    rw of-number at (outcome-finite (inputOf points faces margin options b))

@@ -28,7 +28,7 @@ use Rattle.walk.proofs.PlaceLaws.{place-below, getD-place}
 use Rattle.walk.proofs.RenumberLaws.{used-held}
 use Rattle.meaning.specs.declared.Answer.{Answer}
 use Rattle.meaning.specs.declared.Verdict.the-variants.{Admitted}
-use Rattle.meaning.specs.Input.{Input, pointsIn, pointAt}
+use Rattle.meaning.specs.Input.{Input, pointsIn, pointAt, boundIn}
 use Rattle.meaning.specs.Answers.{verdictOf}
 use Rattle.meaning.specs.Arithmetic.{rulesOf}
 use Rattle.meaning.specs.Start.{inMargin, startKind, startVertex, startMesh}
@@ -103,7 +103,7 @@ module _ (i : Input) (admitted : verdictOf i ≡ Admitted) (x : ℕ) (is-fixed :
   -- no eligible pair has it
   never : (keep remove : Vertex) → rulesIn i .eligible keep remove ≡ true → (fixed (keep .kind) ≡ false) × (fixed (remove .kind) ≡ false)
   unfolding rulesOf
-  never keep remove e = let fit = eligible-fit (i .options .limit) (i .bound) keep remove e in (fit .keep-free, fit .remove-free)
+  never keep remove e = let fit = eligible-fit (i .options .limit) (boundIn i) keep remove e in (fit .keep-free, fit .remove-free)
 
   -- it is fixed at the start
   held-first : fixed (carried i 0 x .kind) ≡ true

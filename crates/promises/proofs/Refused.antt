@@ -1,5 +1,5 @@
--- What a refusal leaves: zeros in the last three, and both outputs as they came; and the work memory is untouched exactly on 1 to 9 and 12.
--- Asks of an input, for the memory, only that its bound is 1,048,576, as `exactly-when` does.
+-- What a refusal leaves: zeros in the last three, and both outputs as they came; and the work memory is untouched exactly on 1 to 9, 12 and 24.
+-- Assumes nothing.
 use Prim.Native.Nat.{ℕ}
 use mathlib.Core.Path.{_≡_, refl, ap, _∙_}
 use mathlib.Core.Logic.{_≢_}
@@ -12,9 +12,8 @@ use Rattle.meaning.specs.declared.Verdict.the-variants.{Refused, Copied, Admitt
 use Rattle.meaning.specs.Input.{Input}
 use Rattle.meaning.specs.Answers.{verdictOf}
 use Rattle.meaning.specs.Outcome.{stuck, fixedIn, Outcome, outcome, outcomeBy}
-use Rattle.meaning.specs.Call.{coordinateBound}
-use Rattle.promises.specs.Table.{Given, row-1, row-2, row-3, row-4, row-5, row-6, row-7, row-zero, row-8, row-9, row-12, row-10, row-11, row-0}
-use Rattle.promises.proofs.Rows.{verdict-1, verdict-2, verdict-3, verdict-4, verdict-5, verdict-6, verdict-7, verdict-zero, verdict-8, verdict-9, verdict-12, verdict-admitted}
+use Rattle.promises.specs.Table.{Given, row-1, row-2, row-3, row-4, row-5, row-6, row-24, row-7, row-zero, row-8, row-9, row-12, row-10, row-11, row-0}
+use Rattle.promises.proofs.Rows.{verdict-1, verdict-2, verdict-3, verdict-4, verdict-5, verdict-6, verdict-24, verdict-7, verdict-zero, verdict-8, verdict-9, verdict-12, verdict-admitted}
 use Rattle.promises.proofs.ExactlyWhen.{exactly-when}
 
 -- ---- the counts and the outputs
@@ -46,9 +45,9 @@ refusal-nothing i = nothing-by (verdictOf i) i
 
 -- ---- the work memory
 
--- the numbers of the checks before the walk: 1 to 9 and 12
+-- the numbers of the checks before the walk: 1 to 9, 12 and 24
 abbrev pub early : ℕ → Bool
-early n = (leb 1 n && leb n 9) || eqb n 12
+early n = (leb 1 n && leb n 9) || (eqb n 12 || eqb n 24)
 
 -- whether it was worked in, by the verdict
 worked-by : {d : Verdict} (i : Input) → verdictOf i ≡ d → outcome i .worked ≡ outcomeBy d i .worked
@@ -69,24 +68,25 @@ admitted-worked : (i : Input) → verdictOf i ≡ Admitted → outcome i .worked
 unfolding outcomeBy
 admitted-worked i e = worked-by i e ∙ by-test (stuck i) (λ t. rw t) (λ t. rw t)
 
-module _ (i : Input) (bounded : i .bound ≡ coordinateBound) where
+module _ (i : Input) where
   -- so by the row of the table
   row-worked : {n p : ℕ} → Given i n p → outcome i .worked ≡ not (early n)
-  row-worked (row-1 u) = refused-untouched i (verdict-1 i bounded u)
-  row-worked (row-2 p l) = refused-untouched i (verdict-2 i bounded p l)
-  row-worked (row-3 p s) = refused-untouched i (verdict-3 i bounded p s)
-  row-worked (row-4 p e) = refused-untouched i (verdict-4 i bounded p e)
-  row-worked (row-5 p b) = refused-untouched i (verdict-5 i bounded p b)
-  row-worked (row-6 p b) = refused-untouched i (verdict-6 i bounded p b)
-  row-worked (row-7 p f) = refused-untouched i (verdict-7 i bounded p f)
-  row-worked (row-zero p z) = copied-worked i (verdict-zero i bounded p z)
-  row-worked (row-8 p f o) = refused-untouched i (verdict-8 i bounded p f o)
-  row-worked (row-9 p f o d) = refused-untouched i (verdict-9 i bounded p f o)
-  row-worked (row-12 p f) = refused-untouched i (verdict-12 i bounded p f)
-  row-worked (row-10 p none above least) = admitted-worked i (verdict-admitted i bounded p)
-  row-worked (row-11 p none above free) = admitted-worked i (verdict-admitted i bounded p)
-  row-worked (row-0 p makes either) = admitted-worked i (verdict-admitted i bounded p)
+  row-worked (row-1 u) = refused-untouched i (verdict-1 i u)
+  row-worked (row-2 p l) = refused-untouched i (verdict-2 i p l)
+  row-worked (row-3 p s) = refused-untouched i (verdict-3 i p s)
+  row-worked (row-4 p e) = refused-untouched i (verdict-4 i p e)
+  row-worked (row-5 p b) = refused-untouched i (verdict-5 i p b)
+  row-worked (row-6 p b) = refused-untouched i (verdict-6 i p b)
+  row-worked (row-24 p b) = refused-untouched i (verdict-24 i p b)
+  row-worked (row-7 p f) = refused-untouched i (verdict-7 i p f)
+  row-worked (row-zero p z) = copied-worked i (verdict-zero i p z)
+  row-worked (row-8 p f o) = refused-untouched i (verdict-8 i p f o)
+  row-worked (row-9 p f o d) = refused-untouched i (verdict-9 i p f o)
+  row-worked (row-12 p f) = refused-untouched i (verdict-12 i p f)
+  row-worked (row-10 p none above least) = admitted-worked i (verdict-admitted i p)
+  row-worked (row-11 p none above free) = admitted-worked i (verdict-admitted i p)
+  row-worked (row-0 p makes either) = admitted-worked i (verdict-admitted i p)
 
   -- untouched on the early numbers, and zeroed after 0, 10 and 11
   pub worked-exactly-when : outcome i .worked ≡ not (early (outcome i .answer .number))
-  worked-exactly-when = row-worked (exactly-when i bounded (outcome i .answer .number) (outcome i .answer .place) .0 (refl, refl))
+  worked-exactly-when = row-worked (exactly-when i (outcome i .answer .number) (outcome i .answer .place) .0 (refl, refl))

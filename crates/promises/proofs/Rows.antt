@@ -1,5 +1,5 @@
 -- The verdict of an input that a row of the table holds of, and no earlier row: its number and place.
--- Asks of an input only that its bound is 1,048,576.
+-- Assumes nothing.
 use Prim.Native.Nat.{ℕ, _<_}
 use native.Mathlib.Nat.{zero-add}
 use native.Mathlib.Omega.{arith}
@@ -15,15 +15,14 @@ use Rattle.walk.specs.declared.Face.{Face}
 use Rattle.walk.specs.Faces.{faceAt}
 use Rattle.meaning.specs.declared.Verdict.{Verdict}
 use Rattle.meaning.specs.declared.Verdict.the-variants.{Refused, Copied, Admitted}
-use Rattle.meaning.specs.Input.{Input, pointsIn, facesIn}
+use Rattle.meaning.specs.Input.{Input, pointsIn, facesIn, boundIn}
 use Rattle.meaning.specs.Answers.{badCoordinate, outside, badEntry, andThen, faceVerdict, marginVerdict, contentsVerdict, verdictOf}
-use Rattle.meaning.specs.Call.{coordinateBound}
 use Rattle.meaning.proofs.FaceVerdictLaws.{badFace, lowest-decides, none-decides}
 use Rattle.meaning.proofs.MarginVerdictLaws.{entry-decides, margin-admitted}
 use Rattle.promises.specs.Steps.{givenFaces}
-use Rattle.promises.specs.Table.{Uneven, Large, Short, Empty, BadRatio, BadLimit, BadCoordinate, Outside, BadFace, BadEntry, RatioZero, First, Past1, Past2, Past3, Past4, Past5, Past6, Past7, PastZero, Past9, Past12}
+use Rattle.promises.specs.Table.{Uneven, Large, Short, Empty, BadRatio, BadLimit, BadUnit, BadCoordinate, Outside, BadFace, BadEntry, RatioZero, First, Past1, Past2, Past3, Past4, Past5, Past6, Past24, Past7, PastZero, Past9, Past12}
 use Rattle.promises.proofs.Says.{Says, fails, says-same, first-said, none-said}
-use Rattle.promises.proofs.Words.{says-uneven, says-large, says-short, says-empty, says-ratio, says-limit, says-coordinate, says-zero, says-outside, says-bad-face, says-bad-entry}
+use Rattle.promises.proofs.Words.{says-uneven, says-large, says-short, says-empty, says-ratio, says-limit, says-unit, says-coordinate, says-zero, says-outside, says-bad-face, says-bad-entry}
 
 -- the numbers of the margin's entries
 abbrev pub entries : Input → List ℕ
@@ -37,8 +36,8 @@ pub each-entry : (i : Input) (k : ℕ) → k < length (entries i) → Says (BadE
 each-entry i k h =
     says-same (says-bad-entry i k) (ap (badEntry (pointsIn i) (i .margin)) (getD-below (length (i .margin)) k (omega (arith, entries-many i))))
 
-module _ (i : Input) (bounded : i .bound ≡ coordinateBound) where
-  -- the verdict, by 1 to 6
+module _ (i : Input) where
+  -- the verdict, by 1 to 6 and 24
   pub verdict-1 : Uneven i → verdictOf i ≡ Refused 1 0
   unfolding verdictOf
   verdict-1 u = rw (says-uneven i .passes u)
@@ -78,10 +77,9 @@ module _ (i : Input) (bounded : i .bound ≡ coordinateBound) where
         says-limit i .passes b,
       )
 
-  -- or by what stands in the lists
-  contents : Past6 i → verdictOf i ≡ contentsVerdict (i .points) (i .faces) (i .margin) (i .options .ratio) (i .bound)
+  pub verdict-24 : Past6 i → BadUnit i → verdictOf i ≡ Refused 24 0
   unfolding verdictOf
-  contents p =
+  verdict-24 p b =
       rw (
         fails (says-uneven i) (p .0 .0 .0 .0 .0),
         fails (says-large i) (p .0 .0 .0 .0 .1),
@@ -89,23 +87,38 @@ module _ (i : Input) (bounded : i .bound ≡ coordinateBound) where
         fails (says-empty i) (p .0 .0 .1),
         fails (says-ratio i) (p .0 .1),
         fails (says-limit i) (p .1),
+        says-unit i .passes b,
+      )
+
+  -- or by what stands in the lists
+  contents : Past24 i → verdictOf i ≡ contentsVerdict (i .points) (i .faces) (i .margin) (i .options .ratio) (boundIn i)
+  unfolding verdictOf
+  contents p =
+      rw (
+        fails (says-uneven i) (p .0 .0 .0 .0 .0 .0),
+        fails (says-large i) (p .0 .0 .0 .0 .0 .1),
+        fails (says-short i) (p .0 .0 .0 .0 .1),
+        fails (says-empty i) (p .0 .0 .0 .1),
+        fails (says-ratio i) (p .0 .0 .1),
+        fails (says-limit i) (p .0 .1),
+        fails (says-unit i) (p .1),
       )
 
   -- the coordinates, one by one
-  pub each-coordinate : (k : ℕ) → k < length (i .points) → Says (BadCoordinate i k) (badCoordinate (i .bound) (getD (i .points) k nan))
-  each-coordinate k h = says-same (says-coordinate i k) (ap (λ (b : Float). badCoordinate b (getD (i .points) k nan)) bounded)
+  pub each-coordinate : (k : ℕ) → k < length (i .points) → Says (BadCoordinate i k) (badCoordinate (boundIn i) (getD (i .points) k nan))
+  each-coordinate k h = says-coordinate i k
 
   -- 7: the first bad one decides
-  pub verdict-7 : {k : ℕ} → Past6 i → First (BadCoordinate i) (length (i .points)) k → verdictOf i ≡ Refused 7 k
+  pub verdict-7 : {k : ℕ} → Past24 i → First (BadCoordinate i) (length (i .points)) k → verdictOf i ≡ Refused 7 k
   unfolding contentsVerdict
   verdict-7 p f =
-      let g = first-said (badCoordinate (i .bound)) nan (i .points) each-coordinate f in
-      contents p ∙ rw (first-some (badCoordinate (i .bound)) nan (i .points) g, first-place (badCoordinate (i .bound)) nan (i .points) _ g)
+      let g = first-said (badCoordinate (boundIn i)) nan (i .points) each-coordinate f in
+      contents p ∙ rw (first-some (badCoordinate (boundIn i)) nan (i .points) g, first-place (badCoordinate (boundIn i)) nan (i .points) _ g)
 
   -- ratio zero: the mesh is copied
   pub verdict-zero : Past7 i → RatioZero i → verdictOf i ≡ Copied
   unfolding contentsVerdict
-  verdict-zero p z = contents (p .0) ∙ rw (none-said (badCoordinate (i .bound)) nan (i .points) each-coordinate (p .1), z)
+  verdict-zero p z = contents (p .0) ∙ rw (none-said (badCoordinate (boundIn i)) nan (i .points) each-coordinate (p .1), z)
 
   -- what stands past the end of the faces: never read
   pub firstFace : Face
@@ -125,7 +138,7 @@ module _ (i : Input) (bounded : i .bound ≡ coordinateBound) where
   faces-decide : PastZero i → verdictOf i ≡ andThen (faceVerdict (pointsIn i) 0 (givenFaces i)) (marginVerdict (pointsIn i) (i .margin))
   unfolding contentsVerdict
   faces-decide p =
-      contents (p .0 .0) ∙ rw (none-said (badCoordinate (i .bound)) nan (i .points) each-coordinate (p .0 .1), fails (says-zero i) (p .1))
+      contents (p .0 .0) ∙ rw (none-said (badCoordinate (boundIn i)) nan (i .points) each-coordinate (p .0 .1), fails (says-zero i) (p .1))
 
   -- the lowest bad one, by 8 or 9
   pub verdict-face : {k : ℕ} → PastZero i → First (BadFace i) (facesIn i) k → verdictOf i ≡ Refused (cond (outside (pointsIn i) (faceAt (i .faces) k)) 8 9) k

@@ -6,7 +6,7 @@ use native.Mathlib.Omega.{arith}
 use mathlib.Core.Logic.{_≢_, _⊎_, inl, inr, ⊎-elim}
 use mathlib.Core.List.{List}
 use mathlib.Core.Bool.{Bool, true, false, not, _&&_, _||_}
-use mathlib.Mathlib.Data.Bool.Basic.{or-inl, or-inr}
+use mathlib.Mathlib.Data.Bool.Basic.{or-inl, or-inr, and-intro, and-elim-left, and-elim-right}
 use borrow.Author.Tests.{ltb-true, ltb-false, leb-true, lt-ltb, le-ltb, le-leb, eqb-true, eq-eqb, ne-eqb, not-true}
 use lib.Dec.{ltb, leb, eqb}
 use lib.ListN.{length, getD}
@@ -67,6 +67,13 @@ pub says-or : {P Q : Type 0} {a b : Bool} → Says P a → Says Q b → Says (P 
 says-or {a = a} {b = b} p q = record {
   holds = λ t. either-of a b t (λ x. inl (p .holds x)) (λ y. inr (q .holds y));
   passes = ⊎-elim (λ x. or-inl a b (p .passes x)) (λ y. or-inr a b (q .passes y));
+}
+
+-- both
+pub says-and : {P Q : Type 0} {a b : Bool} → Says P a → Says Q b → Says (P × Q) (a && b)
+says-and {a = a} {b = b} p q = record {
+  holds = λ t. (p .holds (and-elim-left a b t), q .holds (and-elim-right a b t));
+  passes = λ h. and-intro (p .passes (h .0)) (q .passes (h .1));
 }
 
 -- not both is one or the other not

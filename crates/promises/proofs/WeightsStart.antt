@@ -21,15 +21,15 @@ use Rattle.walk.specs.Faces.{holds, proper, faceAt, facesOf}
 use Rattle.walk.specs.Walk.{started}
 use Rattle.walk.proofs.FaceLaws.{corners}
 use Rattle.meaning.specs.declared.Verdict.the-variants.{Admitted}
-use Rattle.meaning.specs.Input.{Input, pointsIn, facesIn, pointAt}
+use Rattle.meaning.specs.Input.{Input, pointsIn, facesIn, pointAt, boundIn}
 use Rattle.meaning.specs.Start.{faceQuadric, gathered, startVertex, startMesh}
 use Rattle.meaning.specs.Answers.{verdictOf}
 use Rattle.meaning.specs.Outcome.{rulesIn, startOf}
 use Rattle.promises.proofs.Floats.{has-power}
-use Rattle.promises.specs.Finite.{smallPoint, power}
+use Rattle.promises.specs.Finite.{smallPoint}
 use Rattle.promises.proofs.Bounded.{Within, small-within, within-wider}
 use Rattle.promises.proofs.Admitted.{passed}
-use Rattle.promises.proofs.Finite.{point-small}
+use Rattle.promises.proofs.Finite.{powerIn, power-in, power-most, point-small}
 use Rattle.promises.proofs.ErrorsPlanes.{plane-within}
 use Rattle.promises.proofs.ErrorsQuadrics.{QuadricWithin, zero-within, plane-quadric, sum-within}
 use Rattle.promises.proofs.Weights.{Weighed}
@@ -91,20 +91,20 @@ module _ (points : List Float) (v : ℕ) (near : (x : ℕ) → x < v → Within 
 
 -- ---- the start of an admitted mesh
 
-module _ (i : Input) (b : ℕ) (fits : b ≤ 20) (is-power : i .bound ≡ power b) (admitted : verdictOf i ≡ Admitted) where
+module _ (i : Input) (admitted : verdictOf i ≡ Admitted) where
   -- its points are at most 2^20 in size
   start-near : (x : ℕ) → x < pointsIn i → Within 1 20 (pointAt (i .points) x)
   start-near x inside =
-      within-wider fits
-      (small-within b (pointAt (i .points) x)
-      (subst (λ (c : Float). smallPoint c (pointAt (i .points) x) ≡ true) is-power (point-small i (passed i admitted .coordinates-small) x inside)))
+      within-wider (power-most i)
+      (small-within (powerIn i) (pointAt (i .points) x)
+      (subst (λ (c : Float). smallPoint c (pointAt (i .points) x) ≡ true) (power-in i) (point-small i (passed i admitted .coordinates-small) x inside)))
 
   -- as many faces as the input has
   faces-long : length (facesOf (facesIn i) (i .faces)) ≡ facesIn i
   faces-long = length-each (faceAt (i .faces)) (facesIn i)
 
   -- the weights of the start
-  pub start-weighed : Weighed (i .options .limit) (i .bound) (startOf i .mesh)
+  pub start-weighed : Weighed (i .options .limit) (boundIn i) (startOf i .mesh)
   unfolding startOf started startMesh
   start-weighed =
       let faces = facesOf (facesIn i) (i .faces) in

@@ -12,14 +12,16 @@ use lib.Ieee.{Float, nan, inf, fin, isNan, lt, le, eq, neg, ofBits}
 use lib.Ieee.Scale.{finite}
 use Rattle.bits.specs.Cut.{zeroFloat, oneFloat}
 use Rattle.bits.proofs.FloatOrder.{le-total}
+use Rattle.units.specs.declared.Unit.{Unit}
+use Rattle.units.specs.declared.Unit.the-variants.{Millimetre, Micrometre}
+use Rattle.units.specs.Units.{unitBound, unitOf}
 use Rattle.placement.specs.declared.Limit.{Limit}
 use Rattle.placement.specs.declared.Limit.the-variants.{Unlimited, AtMost}
 use Rattle.walk.specs.Faces.{faceAt}
-use Rattle.meaning.specs.Input.{Input, pointsIn, facesIn}
-use Rattle.meaning.specs.Answers.{uneven, large, short, empty, badRatio, badLimit, badCoordinate, outside, doubled, badEntry}
-use Rattle.meaning.specs.Call.{coordinateBound}
-use Rattle.promises.specs.Table.{Uneven, Large, Short, Empty, BadRatio, BadLimit, BadCoordinate, Outside, Doubled, BadFace, BadEntry, RatioZero}
-use Rattle.promises.proofs.Says.{Says, says-same, says-itself, says-not, says-below, says-least, says-most, says-equal, says-differ, says-or, says-not-both}
+use Rattle.meaning.specs.Input.{Input, pointsIn, facesIn, boundIn}
+use Rattle.meaning.specs.Answers.{uneven, large, short, empty, badRatio, badLimit, badUnit, badCoordinate, outside, doubled, badEntry}
+use Rattle.promises.specs.Table.{Uneven, Large, Short, Empty, BadRatio, BadLimit, BadUnit, BadCoordinate, Outside, Doubled, BadFace, BadEntry, RatioZero}
+use Rattle.promises.proofs.Says.{Says, says-same, says-itself, says-not, says-below, says-least, says-most, says-equal, says-differ, says-or, says-and, says-not-both}
 
 -- ---- 1 to 4
 
@@ -56,7 +58,7 @@ says-short i =
 pub says-empty : (i : Input) → Says (Empty i) (empty (pointsIn i) (facesIn i))
 says-empty i = says-or (says-equal (pointsIn i) 0) (says-equal (facesIn i) 0)
 
--- ---- 5 to 7: floats
+-- ---- 5, 6, 24 and 7
 
 -- not at most and not at least is above or below
 outside-or : (a b : Bool) → not (not a && not b) ≡ (a || b)
@@ -91,7 +93,17 @@ says-limit-is (AtMost most) = record { holds = λ t. (most, refl, t); passes = �
 pub says-limit : (i : Input) → Says (BadLimit i) (badLimit (i .options .limit))
 says-limit i = says-limit-is (i .options .limit)
 
--- 7: a coordinate is not finite, or its size is above 1,048,576
+-- 24: the unit is neither 1 nor 2
+neither-is : (a b : Bool) → not (a || b) ≡ (not a && not b)
+neither-is true b = refl
+neither-is false b = refl
+
+pub says-unit : (i : Input) → Says (BadUnit i) (badUnit (i .options .unit))
+says-unit i =
+    let u = i .options .unit in
+    says-same (says-and (says-differ u 1) (says-differ u 2)) (neither-is (eqb u 1) (eqb u 2))
+
+-- 7: a coordinate is not finite, or its size is above its unit's bound
 coordinate-is : (bound x : Float) → isNan bound ≡ false → badCoordinate bound x ≡ (not (finite x) || (lt bound x || lt x (neg bound)))
 unfolding isNan neg
 coordinate-is bound nan p = refl
@@ -104,15 +116,16 @@ coordinate-is (fin t n d) (fin s m e) p =
     rw (le-total (fin s m e) (fin t n d) refl refl, le-total (fin (not t) n d) (fin s m e) refl refl)
     (outside-or (lt (fin t n d) (fin s m e)) (lt (fin s m e) (fin (not t) n d)))
 
-bound-is-number : isNan coordinateBound ≡ false
+bound-is-number : (u : Unit) → isNan (unitBound u) ≡ false
 unfolding isNan ofBits
-bound-is-number = refl
+bound-is-number Millimetre = refl
+bound-is-number Micrometre = refl
 
-pub says-coordinate : (i : Input) (k : ℕ) → Says (BadCoordinate i k) (badCoordinate coordinateBound (getD (i .points) k nan))
+pub says-coordinate : (i : Input) (k : ℕ) → Says (BadCoordinate i k) (badCoordinate (boundIn i) (getD (i .points) k nan))
 says-coordinate i k =
     let x = getD (i .points) k nan in
-    says-same (says-or (says-not (finite x)) (says-or (says-itself (lt coordinateBound x)) (says-itself (lt x (neg coordinateBound)))))
-    (coordinate-is coordinateBound x bound-is-number)
+    says-same (says-or (says-not (finite x)) (says-or (says-itself (lt (boundIn i) x)) (says-itself (lt x (neg (boundIn i))))))
+    (coordinate-is (boundIn i) x (bound-is-number (unitOf (i .options .unit))))
 
 -- ratio 0.0 or -0.0
 pub says-zero : (i : Input) → Says (RatioZero i) (eq (i .options .ratio) zeroFloat)

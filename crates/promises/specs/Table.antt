@@ -15,9 +15,8 @@ use Rattle.walk.specs.declared.Pair.{Pair}
 use Rattle.lists.specs.Lists.{count, below}
 use Rattle.walk.specs.Faces.{faceAt}
 use Rattle.walk.specs.Walk.{ended}
-use Rattle.meaning.specs.Input.{Input, pointsIn, facesIn}
+use Rattle.meaning.specs.Input.{Input, pointsIn, facesIn, boundIn}
 use Rattle.meaning.specs.Outcome.{targetOf}
-use Rattle.meaning.specs.Call.{coordinateBound}
 use Rattle.promises.specs.Steps.{answerAt, foldsTo, fixedPoint}
 
 -- ---- "Given exactly when"
@@ -53,11 +52,15 @@ BadRatio i = let r = i .options .ratio in (isNan r ≡ true) ⊎ (lt r zeroFloat
 abbrev pub BadLimit : Input → Type 0
 BadLimit i = (most : Float) × (i .options .limit ≡ AtMost most) × (isNan most ≡ true)
 
--- 7, of coordinate k: it is not finite, or its size is above 1,048,576
+-- 24: the unit is neither 1, millimetre, nor 2, micrometre
+abbrev pub BadUnit : Input → Type 0
+BadUnit i = (i .options .unit ≢ 1) × (i .options .unit ≢ 2)
+
+-- 7, of coordinate k: it is not finite, or its size is above its unit's bound
 abbrev pub BadCoordinate : Input → ℕ → Type 0
 BadCoordinate i k =
     let x = getD (i .points) k nan in
-    (finite x ≡ false) ⊎ (lt coordinateBound x ≡ true) ⊎ (lt x (neg coordinateBound) ≡ true)
+    (finite x ≡ false) ⊎ (lt (boundIn i) x ≡ true) ⊎ (lt x (neg (boundIn i)) ≡ true)
 
 -- 8, of face k: it names a point not below V
 abbrev pub Outside : Input → ℕ → Type 0
@@ -117,8 +120,12 @@ Past5 i = Past4 i × (¬ BadRatio i)
 abbrev pub Past6 : Input → Type 0
 Past6 i = Past5 i × (¬ BadLimit i)
 
+-- 24 stands between 6 and 7
+abbrev pub Past24 : Input → Type 0
+Past24 i = Past6 i × (¬ BadUnit i)
+
 abbrev pub Past7 : Input → Type 0
-Past7 i = Past6 i × None (BadCoordinate i) (length (i .points))
+Past7 i = Past24 i × None (BadCoordinate i) (length (i .points))
 
 -- "Ratio 0.0 or -0.0 is answered after 7 and before 8"
 abbrev pub PastZero : Input → Type 0
@@ -139,8 +146,9 @@ pub data Given (i : Input) : ℕ → ℕ → Type 0 where
   row-4 : Past3 i → Empty i → Given i 4 0
   row-5 : Past4 i → BadRatio i → Given i 5 0
   row-6 : Past5 i → BadLimit i → Given i 6 0
+  row-24 : Past6 i → BadUnit i → Given i 24 0
   -- the place is the first such coordinate's number
-  row-7 : {k : ℕ} → Past6 i → First (BadCoordinate i) (length (i .points)) k → Given i 7 k
+  row-7 : {k : ℕ} → Past24 i → First (BadCoordinate i) (length (i .points)) k → Given i 7 k
   -- the mesh is copied
   row-zero : Past7 i → RatioZero i → Given i 0 0
   -- the lowest bad face counts; within it 8 comes first

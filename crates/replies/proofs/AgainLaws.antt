@@ -13,11 +13,13 @@ use Rattle.lists.specs.Lists.{every}
 use Rattle.lists.proofs.EveryLaws.{every-at}
 use Rattle.records.specs.Words.{numbersFrom}
 use Rattle.meaning.specs.declared.Verdict.{Verdict}
+use Rattle.units.specs.declared.Unit.{Unit}
+use Rattle.units.specs.Units.{unitNumber, unitBound}
+use Rattle.units.proofs.UnitLaws.{unit-of-number, number-known}
 use Rattle.meaning.specs.Input.{Input}
-use Rattle.meaning.specs.Call.{coordinateBound}
 use Rattle.meaning.specs.Outcome.{Outcome, outcomeBy, outcome}
 use Rattle.promises.specs.Finite.{small}
-use Rattle.promises.proofs.Finite.{document-bound, outcome-finite}
+use Rattle.promises.proofs.Finite.{outcome-finite}
 use Rattle.checks.specs.Facts.{Copiable}
 use Rattle.checks.proofs.VerdictLaws.{is-copied}
 use Rattle.scanfile.specs.declared.Head.{Head}
@@ -48,20 +50,20 @@ scanOutcome bytes h = outcome (scanCall bytes h)
 -- ---- a mesh as the program writes it is copied
 
 -- what the library is handed for a mesh that was written: no margin
-abbrev writtenCall : ℕ → List Float → List ℕ → Input
+abbrev writtenCall : Unit → List Float → List ℕ → Input
 writtenCall unit points faces = callOf (writtenHead unit (length points / 3) (length faces / 3)) points faces []
 
 -- a mesh of the program's size that is there, with no bad coordinate
-record Whole (unit : ℕ) (points : List Float) (faces : List ℕ) : Type 0 where
-  small-enough : Small unit points faces
+record Whole (unit : Unit) (points : List Float) (faces : List ℕ) : Type 0 where
+  small-enough : Small points faces
   points-some : 0 < length points
   faces-some : 0 < length faces
-  coordinates-good : every (small coordinateBound) points ≡ true
+  coordinates-good : every (small (unitBound unit)) points ≡ true
 
-module _ {unit : ℕ} {points : List Float} {faces : List ℕ} (whole : Whole unit points faces) where
+module _ {unit : Unit} {points : List Float} {faces : List ℕ} (whole : Whole unit points faces) where
   -- it fits a file
-  file-fits : ScanFits unit points faces (replicate 12288 0)
-  file-fits = small-fits (le-of-eq (sym (length-replicate {A = ℕ} 12288 0))) (whole .small-enough)
+  file-fits : ScanFits (unitNumber unit) points faces (replicate 12288 0)
+  file-fits = small-fits unit (le-of-eq (sym (length-replicate {A = ℕ} 12288 0))) (whole .small-enough)
 
   -- with a written file's options it is copied
   copiable : Copiable (writtenCall unit points faces)
@@ -82,7 +84,8 @@ module _ {unit : ℕ} {points : List Float} {faces : List ℕ} (whole : Whole un
       ratio-least = tt;
       ratio-most = tt;
       limit-good = refl;
-      coordinates-good = λ k inside. not-true _ (every-at (small coordinateBound) nan points (whole .coordinates-good) k inside);
+      unit-known = number-known unit;
+      coordinates-good = λ k inside. rw (unit-of-number unit) (not-true _ (every-at (small (unitBound unit)) nan points (whole .coordinates-good) k inside));
     };
     ratio-zero = refl;
   }
@@ -110,7 +113,6 @@ module _ (bytes : List ℕ) (h : Head) (good : scanOf bytes ≡ Good h) where
       record {
         small-enough =
             record {
-              unit-known = file .unit-known;
               points-by-three = omega (arith, sizes .points);
               faces-by-three = omega (arith, sizes .faces);
               points-most = omega (arith, fit .points-most, file .points-most);
@@ -118,17 +120,18 @@ module _ (bytes : List ℕ) (h : Head) (good : scanOf bytes ≡ Good h) where
             };
         points-some = fit .points-some faces-some;
         faces-some = faces-some;
-        coordinates-good = outcome-finite (scanCall bytes h) 20 (omega arith) document-bound;
+        coordinates-good = rw (unit-of-number (h .unit)) at (outcome-finite (scanCall bytes h));
       }
 
 -- The file that the program writes for a scan is thinned by it to the same mesh, with no fold: the same unit, the same points, the same faces. It must have
 -- a face, which no refusal has: an empty mesh would be refused by 4.
 pub written-again : (wanted : Wanted) (bytes : List ℕ) (h : Head) → scanOf bytes ≡ Good h → 0 < scanOutcome bytes h .answer .faces →
-    replyOf wanted (scanBytes (h .unit) (scanOutcome bytes h .points) (scanOutcome bytes h .faces))
+    replyOf wanted (scanBytes (unitNumber (h .unit)) (scanOutcome bytes h .points) (scanOutcome bytes h .faces))
     ≡ mesh (meshBytes wanted (h .unit) 0 (scanOutcome bytes h .points) (scanOutcome bytes h .faces))
 unfolding replyOf replyBy numbersFrom
 written-again wanted bytes h good some =
     let o = scanOutcome bytes h in
     let there = whole bytes h good some in
     let back = reads-back (file-fits there) (each-single (o .points) (fit bytes h good .floats)) in
-    ap (replyBy wanted (scanBytes (h .unit) (o .points) (o .faces))) (back .good) ∙ rw (back .points-are, back .faces-are) (copied-told there wanted)
+    let head = rw (unit-of-number (h .unit)) at (back .good) in
+    ap (replyBy wanted (scanBytes (unitNumber (h .unit)) (o .points) (o .faces))) head ∙ rw (back .points-are, back .faces-are) (copied-told there wanted)

@@ -3,7 +3,6 @@
 use Prim.Native.Nat.{ℕ, zero, suc, _+_, _*_, _/_, _≤_}
 use native.Mathlib.Omega.{arith}
 use mathlib.Core.Path.{_≡_, refl, sym, ap, subst, _∙_}
-use mathlib.Core.Logic.{_⊎_}
 use mathlib.Core.List.{List}
 use mathlib.Core.Bool.{Bool, true}
 use lib.Dec.{T}
@@ -11,6 +10,9 @@ use lib.ListN.{length, getD, take, drop, length-append, length-map}
 use lib.Seq.{take-at, length-take-le}
 use lib.Ieee.{Float, nan, binary32, fits, ofBits}
 use borrow.Author.Tests.{le-leb}
+use Rattle.units.specs.declared.Unit.{Unit}
+use Rattle.units.specs.Units.{unitNumber}
+use Rattle.units.proofs.UnitLaws.{number-known}
 use Rattle.meaning.specs.declared.Answer.{Answer}
 use Rattle.meaning.specs.Call.{Lent, inputOf}
 use Rattle.meaning.specs.Outcome.{Outcome}
@@ -74,7 +76,7 @@ refusal-replied wanted number place {old} room done size =
 
 -- the listing of a mesh
 pub listing-replied : (unit folds : ℕ) (points : List Float) (faces : List ℕ) {old new : List ℕ} {l : Printed} {r : ℕ} → 12288 ≤ length old →
-    Small unit points faces →
+    Small points faces →
     Prints (meshFits (length old) (length points / 3) (length faces / 3)) (meshText unit folds points faces) old new l → r ≡ sizeIn l →
     Replied Listing (mesh (meshText unit folds points faces)) old new (Mesh r)
 listing-replied unit folds points faces {old} room small done size =
@@ -94,12 +96,12 @@ listing-replied unit folds points faces {old} room small done size =
     }
 
 -- the file of a mesh: it fits
-pub small-fits : {unit : ℕ} {points : List Float} {faces out : List ℕ} → 12288 ≤ length out → Small unit points faces → ScanFits unit points faces out
-small-fits room small =
+pub small-fits : (unit : Unit) {points : List Float} {faces out : List ℕ} → 12288 ≤ length out → Small points faces → ScanFits (unitNumber unit) points faces out
+small-fits unit room small =
     record {
       points-by-three = small .points-by-three;
       faces-by-three = small .faces-by-three;
-      unit-known = small .unit-known;
+      unit-known = number-known unit;
       points-most = omega arith;
       faces-most = omega arith;
       room = omega arith;
@@ -120,11 +122,11 @@ file-replied {unit} {points} {faces} {old} {new} {w} {n} floats done is =
           (record { unit = unit; points = points; faces = faces; bytes-are = written-bytes whole; back = written-back whole floats });
     }
 
-pub never-refused : {unit : ℕ} {points : List Float} {faces old new : List ℕ} {w : Writing} {number place : ℕ} → 12288 ≤ length old → Small unit points faces →
-    ScanWritten unit points faces old new w → w ≡ writing.Refused number place → ⊥
-never-refused {unit} {points} {faces} {old} {number = number} {place} room small done is =
+pub never-refused : (unit : Unit) {points : List Float} {faces old new : List ℕ} {w : Writing} {number place : ℕ} → 12288 ≤ length old → Small points faces →
+    ScanWritten (unitNumber unit) points faces old new w → w ≡ writing.Refused number place → ⊥
+never-refused unit {points} {faces} {old} {number = number} {place} room small done is =
     let same : writing.Bytes (scanRoom (length points) (length faces)) ≡ writing.Refused number place =
-    sym (taken (small-fits {unit = unit} {points = points} {faces = faces} {out = old} room small)) ∙ sym (done .answered) ∙ is in
+    sym (taken (small-fits unit {points = points} {faces = faces} {out = old} room small)) ∙ sym (done .answered) ∙ is in
     let z : _≡_ {A = ℕ} 0 1 = cc in
     omega arith
 
@@ -179,9 +181,8 @@ module _ (o : Outcome) (whole : Counted o) {r : Answer} (points : List Float) {p
   faces-count = rw answered (whole .faces)
 
   -- its mesh is there
-  pub shown : {unit : ℕ} → (unit ≡ 1) ⊎ (unit ≡ 2) → length points' ≤ 384 → length faces' ≤ 768 → Shown unit r points' faces'
-  shown known points-most faces-most = record {
-    unit-known = known;
+  pub shown : length points' ≤ 384 → length faces' ≤ 768 → Shown r points' faces'
+  shown points-most faces-most = record {
     points-there = over-there (o .points) points (3 * r .points) points-count points-out;
     faces-there = over-there (o .faces) faces (3 * r .faces) faces-count faces-out;
     points-most = points-most;
@@ -189,7 +190,7 @@ module _ (o : Outcome) (whole : Counted o) {r : Answer} (points : List Float) {p
   }
 
   -- and its reply is the outcome's
-  pub outcome-replied : (wanted : Wanted) (unit : ℕ) {old new : List ℕ} {s : Reply} →
+  pub outcome-replied : (wanted : Wanted) (unit : Unit) {old new : List ℕ} {s : Reply} →
       Replied wanted (answerTold wanted unit r (take (3 * r .points) points') (take (3 * r .faces) faces')) old new s →
       Replied wanted (outcomeTold wanted unit o) old new s
   outcome-replied wanted unit {old} {new} {s} done =
@@ -200,13 +201,12 @@ module _ (o : Outcome) (whole : Counted o) {r : Answer} (points : List Float) {p
       subst (λ (t : Told). Replied wanted t old new s) told-is done
 
 -- the parts of an answer's mesh are small
-pub parts-small : {unit : ℕ} {r : Answer} {points : List Float} {faces : List ℕ} → Shown unit r points faces →
-    Small unit (take (3 * r .points) points) (take (3 * r .faces) faces)
-parts-small {unit} {r} {points} {faces} there =
+pub parts-small : {r : Answer} {points : List Float} {faces : List ℕ} → Shown r points faces →
+    Small (take (3 * r .points) points) (take (3 * r .faces) faces)
+parts-small {r} {points} {faces} there =
     let points-long : length (take (3 * r .points) points) ≡ 3 * r .points = length-take-le (3 * r .points) points (there .points-there) in
     let faces-long : length (take (3 * r .faces) faces) ≡ 3 * r .faces = length-take-le (3 * r .faces) faces (there .faces-there) in
     record {
-      unit-known = there .unit-known;
       points-by-three = omega arith;
       faces-by-three = omega arith;
       points-most = omega (arith, there .points-there, there .points-most);

@@ -1,7 +1,6 @@
 -- What the functions that write a reply ask and leave.
 use Prim.Native.Nat.{ℕ, _*_, _/_, _≤_}
 use mathlib.Core.Path.{_≡_}
-use mathlib.Core.Logic.{_⊎_}
 use mathlib.Core.List.{List}
 use lib.ListN.{length, take}
 use lib.Ieee.{Float}
@@ -48,17 +47,15 @@ pub record Replied (wanted : Wanted) (t : Told) (old new : List ℕ) (r : Reply)
   pub within : length (toldBytes t) ≤ length new
   pub is-scan : (n : ℕ) → wanted ≡ File → r ≡ Mesh n → IsScan (take n new)
 
--- a mesh is no larger than the program's memory, and its unit is one of document 01's
-pub record Small (unit : ℕ) (points : List Float) (faces : List ℕ) : Type 0 where
-  pub unit-known : (unit ≡ 1) ⊎ (unit ≡ 2)
+-- a mesh is no larger than the program's memory
+pub record Small (points : List Float) (faces : List ℕ) : Type 0 where
   pub points-by-three : length points ≡ 3 * (length points / 3)
   pub faces-by-three : length faces ≡ 3 * (length faces / 3)
   pub points-most : length points ≤ 384
   pub faces-most : length faces ≤ 768
 
 -- an answer's mesh is there, and is no larger than the program's memory
-pub record Shown (unit : ℕ) (r : Answer) (points : List Float) (faces : List ℕ) : Type 0 where
-  pub unit-known : (unit ≡ 1) ⊎ (unit ≡ 2)
+pub record Shown (r : Answer) (points : List Float) (faces : List ℕ) : Type 0 where
   pub points-there : 3 * r .points ≤ length points
   pub faces-there : 3 * r .faces ≤ length faces
   pub points-most : length points ≤ 384

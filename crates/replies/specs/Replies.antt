@@ -2,10 +2,11 @@
 use Prim.Native.Nat.{ℕ, zero, suc}
 use mathlib.Core.List.{List, _++_}
 use lib.Ieee.{Float}
+use Rattle.units.specs.declared.Unit.{Unit}
+use Rattle.units.specs.Units.{unitNumber}
 use Rattle.meaning.specs.Input.{Input}
 use Rattle.meaning.specs.declared.Answer.{Answer}
 use Rattle.meaning.specs.declared.Options.{Options}
-use Rattle.meaning.specs.Call.{coordinateBound}
 use Rattle.meaning.specs.Outcome.{Outcome, outcome}
 use Rattle.scanfile.specs.declared.Head.{Head}
 use Rattle.scanfile.specs.declared.Scan.{Scan}
@@ -27,9 +28,9 @@ pub data Told : Type 0 where
   refusal : ℕ → ℕ → Told
 
 -- a mesh as it was asked for: document 01's listing, or a scan file
-abbrev pub meshBytes : Wanted → (unit folds : ℕ) → List Float → List ℕ → List ℕ
-meshBytes Listing unit folds points faces = meshText unit folds points faces
-meshBytes File unit folds points faces = scanBytes unit points faces
+abbrev pub meshBytes : Wanted → (unit : Unit) (folds : ℕ) → List Float → List ℕ → List ℕ
+meshBytes Listing unit folds points faces = meshText (unitNumber unit) folds points faces
+meshBytes File unit folds points faces = scanBytes (unitNumber unit) points faces
 
 -- a number's reply: 0 has the mesh, and any other is a refusal
 abbrev pub toldBy : (number place : ℕ) → List ℕ → Told
@@ -37,16 +38,16 @@ toldBy zero place bytes = mesh bytes
 toldBy (suc n) place bytes = refusal (suc n) place
 
 -- the reply of an answer, with the points and faces of its mesh
-abbrev pub answerTold : Wanted → ℕ → Answer → List Float → List ℕ → Told
+abbrev pub answerTold : Wanted → Unit → Answer → List Float → List ℕ → Told
 answerTold wanted unit r points faces = toldBy (r .number) (r .place) (meshBytes wanted unit (r .folds) points faces)
 
 -- the reply of an outcome
-abbrev pub outcomeTold : Wanted → ℕ → Outcome → Told
+abbrev pub outcomeTold : Wanted → Unit → Outcome → Told
 outcomeTold wanted unit o = answerTold wanted unit (o .answer) (o .points) (o .faces)
 
 -- the options that a file's head has
 abbrev pub headOptions : Head → Options
-headOptions head = record { ratio = head .ratio; preserve = head .preserve; limit = head .limit }
+headOptions head = record { unit = unitNumber (head .unit); ratio = head .ratio; preserve = head .preserve; limit = head .limit }
 
 -- what the library is handed: the mesh, the margin, the options, and memory for 128 points and 256 faces
 abbrev pub callOf : Head → List Float → (faces margin : List ℕ) → Input
@@ -57,7 +58,6 @@ callOf head points faces margin =
       margin = margin;
       rooms = record { points = 384; faces = 768; u32s = 10240; f32s = 3584; f64s = 3584 };
       options = headOptions head;
-      bound = coordinateBound;
     }
 
 -- the reply to a file that is refused, and to one that is good

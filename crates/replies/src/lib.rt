@@ -1,7 +1,6 @@
 // From a file's bytes to the reply: what is written is determined by what was read, as replyOf of specs/Replies.antt says.
 // A file has at most 128 points, 256 faces and 128 margin points, and no buffer is larger than 64 KiB.
 ghost use mathlib.Core.Path.{_≡_};
-ghost use mathlib.Core.Logic.{_⊎_};
 ghost use Prim.Native.Nat.{_*_, _≤_};
 ghost use lib.ListN.{length, take};
 ghost use Rattle.scanfile.specs.declared.Scan.the-variants.{Good};
@@ -9,6 +8,7 @@ ghost use Rattle.scanfile.specs.Scans.{scanOf};
 ghost use Rattle.meaning.specs.Outcome.{outcome};
 ghost use Rattle.lists.specs.Puts.{Put};
 ghost use Rattle.listing.specs.Texts.{meshText};
+ghost use Rattle.units.specs.Units.{unitNumber};
 ghost use Rattle.scanwriter.specs.Written.{scanBytes};
 ghost use Rattle.replies.specs.declared.Wanted.the-variants.{Listing, File};
 ghost use Rattle.replies.specs.Replies.{mesh, refusal, meshBytes, answerTold, callOf, outcomeTold, replyBy, replyOf, complaint};
@@ -19,6 +19,8 @@ use meaning::Options;
 use scanfile::Head;
 use scanfile::Scan;
 use scanwriter::Writing;
+use units::Unit;
+use units::unit_number;
 use walking::Engine;
 
 // What is asked for: document 01's listing, or a scan file.
@@ -114,20 +116,22 @@ fn write_refusal(out: &mut [u8], wanted: Wanted, number: u32, place: u32) -> Rep
 }
 
 // Writes the listing of a mesh.
-fn write_listing(out: &mut [u8], unit: u32, folds: u32, points: &[f32], faces: &[u32]) -> Reply
-    requires { ⌜ 12288 ≤ length (now out) ⌝ ∗ ⌜ Small unit (now points) (now faces) ⌝ }
-    ensures { λ r. ⌜ Replied Listing (mesh (meshText unit folds (now (points .entry)) (now (faces .entry)))) (now (out .entry)) (now (out .exit)) r ⌝ }
+fn write_listing(out: &mut [u8], unit: Unit, folds: u32, points: &[f32], faces: &[u32]) -> Reply
+    requires { ⌜ 12288 ≤ length (now out) ⌝ ∗ ⌜ Small (now points) (now faces) ⌝ }
+    ensures { λ r. ⌜ Replied Listing (mesh (meshText (unitNumber unit) folds (now (points .entry)) (now (faces .entry)))) (now (out .entry)) (now (out .exit)) r ⌝ }
 {
-    let size = size_in(listing::list_mesh(out, unit, folds, points, faces));
+    let number = unit_number(unit);
+    let size = size_in(listing::list_mesh(out, number, folds, points, faces));
     Reply::Mesh(size)
 }
 
 // Writes the file of a mesh. It fits, so the writer does not refuse.
-fn write_file(out: &mut [u8], unit: u32, points: &[f32], faces: &[u32]) -> Reply
-    requires { ⌜ 12288 ≤ length (now out) ⌝ ∗ ⌜ Small unit (now points) (now faces) ⌝ }
-    ensures { λ r. ⌜ Replied File (mesh (scanBytes unit (now (points .entry)) (now (faces .entry)))) (now (out .entry)) (now (out .exit)) r ⌝ }
+fn write_file(out: &mut [u8], unit: Unit, points: &[f32], faces: &[u32]) -> Reply
+    requires { ⌜ 12288 ≤ length (now out) ⌝ ∗ ⌜ Small (now points) (now faces) ⌝ }
+    ensures { λ r. ⌜ Replied File (mesh (scanBytes (unitNumber unit) (now (points .entry)) (now (faces .entry)))) (now (out .entry)) (now (out .exit)) r ⌝ }
 {
-    match scanwriter::write_scan(unit, points, faces, out) {
+    let number = unit_number(unit);
+    match scanwriter::write_scan(number, points, faces, out) {
         Writing::Bytes(n) => Reply::Mesh(n),
         Writing::Refused(number, place) => Reply::Refusal(0, number, place),
     }
@@ -137,12 +141,12 @@ fn write_file(out: &mut [u8], unit: u32, points: &[f32], faces: &[u32]) -> Reply
 fn write_mesh(
     out: &mut [u8],
     wanted: Wanted,
-    unit: u32,
+    unit: Unit,
     folds: u32,
     points: &[f32],
     faces: &[u32],
 ) -> Reply
-    requires { ⌜ 12288 ≤ length (now out) ⌝ ∗ ⌜ Small unit (now points) (now faces) ⌝ }
+    requires { ⌜ 12288 ≤ length (now out) ⌝ ∗ ⌜ Small (now points) (now faces) ⌝ }
     ensures { λ r. ⌜ Replied wanted (mesh (meshBytes wanted unit folds (now (points .entry)) (now (faces .entry)))) (now (out .entry)) (now (out .exit)) r ⌝ }
 {
     match wanted {
@@ -155,12 +159,12 @@ fn write_mesh(
 fn write_answer(
     out: &mut [u8],
     wanted: Wanted,
-    unit: u32,
+    unit: Unit,
     answer: Answer,
     points: &[f32],
     faces: &[u32],
 ) -> Reply
-    requires { ⌜ 12288 ≤ length (now out) ⌝ ∗ ⌜ Shown unit answer (now points) (now faces) ⌝ }
+    requires { ⌜ 12288 ≤ length (now out) ⌝ ∗ ⌜ Shown answer (now points) (now faces) ⌝ }
     ensures { λ r. ⌜ Replied wanted (answerTold wanted unit answer (take (3 * answer .points) (now (points .entry))) (take (3 * answer .faces) (now (faces .entry)))) (now (out .entry)) (now (out .exit)) r ⌝ }
 {
     if answer.number != 0 {
@@ -187,7 +191,7 @@ fn write_thinned(
     faces: &[u32],
     margin: &[u32],
 ) -> Reply
-    requires { ⌜ 12288 ≤ length (now out) ⌝ ∗ ⌜ (head .unit ≡ 1) ⊎ (head .unit ≡ 2) ⌝ }
+    requires { ⌜ 12288 ≤ length (now out) ⌝ }
     ensures { λ r. ⌜ Replied wanted (outcomeTold wanted (head .unit) (outcome (callOf head (now (points .entry)) (now (faces .entry)) (now (margin .entry))))) (now (out .entry)) (now (out .exit)) r ⌝ }
 {
     let mut out_points = point_cells();
@@ -196,8 +200,10 @@ fn write_thinned(
     let mut work_f32 = work_f32_cells();
     let mut work_f64 = work_f64_cells();
     let mut folds = [0u32; 1];
+    let unit = head.unit;
     let limit = head.limit;
     let options = Options {
+        unit: unit_number(unit),
         ratio: head.ratio,
         preserve: head.preserve,
         limit: limit,
@@ -215,7 +221,7 @@ fn write_thinned(
         &mut work_f64,
         &mut folds,
     );
-    write_answer(out, wanted, head.unit, answer, &out_points, &out_faces)
+    write_answer(out, wanted, unit, answer, &out_points, &out_faces)
 }
 
 // Reads a good file's mesh, thins it and writes the reply of the outcome.

@@ -10,6 +10,7 @@ use lib.ListN.{length, getD, take}
 use lib.Ieee.{Float, nan, binary32, fits}
 use borrow.Author.Tests.{le-leb, lt-leb}
 use Rattle.lists.specs.Lists.{overlaid}
+use Rattle.units.specs.Units.{unitNumber, unitOf}
 use Rattle.scanfile.specs.declared.Head.{Head}
 use Rattle.scanfile.specs.declared.Scan.the-variants.{Good, Bad}
 use Rattle.scanfile.specs.Scans.{scanOf}
@@ -29,10 +30,10 @@ same-head bytes one other = cc
 
 pub good-read : (bytes : List ℕ) (g : Head) {points points' : List Float} {faces faces' : List ℕ} → scanOf bytes ≡ Good g →
     points' ≡ overlaid (pointsOf bytes (g .points)) points → faces' ≡ overlaid (faceNumbersOf bytes (g .points) (g .faces)) faces →
-    MeshRead bytes points points' faces faces' (g .unit)
+    MeshRead bytes points points' faces faces' (unitNumber (g .unit))
 good-read bytes g {points} {points'} {faces} {faces'} good points-in faces-in =
     record {
-      unit-read = λ h e. ap (λ (x : Head). x .unit) (same-head bytes good e);
+      unit-read = λ h e. ap (λ (x : Head). unitNumber (x .unit)) (same-head bytes good e);
       points-read = λ h e. points-in ∙ ap (λ (x : Head). overlaid (pointsOf bytes (x .points)) points) (same-head bytes good e);
       faces-read = λ h e. faces-in ∙ ap (λ (x : Head). overlaid (faceNumbersOf bytes (x .points) (x .faces)) faces) (same-head bytes good e);
     }
@@ -90,7 +91,7 @@ module _ (unit : ℕ) (points : List Float) (faces file : List ℕ) (out-points 
         pub all-back : {out-points' : List Float} {out-faces' : List ℕ} {r : ℕ} → MeshRead (take n file') out-points out-points' out-faces out-faces' r →
             BackAgain comes unit points faces out-points out-points' out-faces out-faces' r
         all-back read =
-            let head = writtenHead unit (length points / 3) (length faces / 3) in
-            comes-back comes (rw (le-leb _ _ points-room, le-leb _ _ faces-room, ← done .answered) refl) (read .unit-read head (back .good))
+            let head = writtenHead (unitOf unit) (length points / 3) (length faces / 3) in
+            comes-back comes (rw (le-leb _ _ points-room, le-leb _ _ faces-room, ← done .answered) refl) (read .unit-read head (back .good) ∙ back .unit-is)
             (read .points-read head (back .good) ∙ ap (λ (l : List Float). overlaid l out-points) (back .points-are))
             (read .faces-read head (back .good) ∙ ap (λ (l : List ℕ). overlaid l out-faces) (back .faces-are))

@@ -7,6 +7,7 @@ use lib.Dec.{leb}
 use lib.ListN.{length}
 use lib.Ieee.{Float}
 use Rattle.lists.specs.Lists.{overlaid}
+use Rattle.units.specs.Units.{unitNumber}
 use Rattle.scanfile.specs.declared.Head.{Head}
 use Rattle.scanfile.specs.declared.Scan.the-variants.{Good}
 use Rattle.scanfile.specs.Scans.{scanOf}
@@ -24,7 +25,7 @@ pub record RoomToRead (bytes : List ℕ) (points : List Float) (faces : List ℕ
 
 -- what a good file holds, as the reader's definition has it
 pub record MeshRead (bytes : List ℕ) (points points' : List Float) (faces faces' : List ℕ) (r : ℕ) : Type 0 where
-  pub unit-read : (h : Head) → scanOf bytes ≡ Good h → r ≡ h .unit
+  pub unit-read : (h : Head) → scanOf bytes ≡ Good h → r ≡ unitNumber (h .unit)
   pub points-read : (h : Head) → scanOf bytes ≡ Good h → points' ≡ overlaid (pointsOf bytes (h .points)) points
   pub faces-read : (h : Head) → scanOf bytes ≡ Good h → faces' ≡ overlaid (faceNumbersOf bytes (h .points) (h .faces)) faces
 

@@ -7,19 +7,21 @@ use scanfile::read_points;
 use scanfile::read_scan;
 use scanwriter::Writing;
 use scanwriter::write_scan;
+use units::unit_number;
 
-// Reads a file's points and faces to the beginning of two lists, and answers its unit; 0 for bytes that are no good file.
+// Reads a file's points and faces to the beginning of two lists, and answers its unit's number; 0 for bytes that are no good file.
 fn read_mesh(bytes: &[u8], out_points: &mut [f32], out_faces: &mut [u32]) -> u32
     requires { ⌜ RoomToRead (now bytes) (now «out_points») (now «out_faces») ⌝ }
     ensures { λ r. ⌜ MeshRead (now (bytes .entry)) (now («out_points» .entry)) (now («out_points» .exit)) (now («out_faces» .entry)) (now («out_faces» .exit)) r ⌝ }
 {
     match read_scan(bytes) {
         Scan::Good(head) => {
+            let unit = head.unit;
             let v = head.points;
             let f = head.faces;
             read_points(bytes, v, out_points);
             read_faces(bytes, v, f, out_faces);
-            head.unit
+            unit_number(unit)
         }
         Scan::Bad(_, _) => 0,
     }

@@ -9,7 +9,8 @@ use lib.Dec.{ltb, eqb}
 use lib.ListN.{length}
 use borrow.Author.Tests.{ltb-false, eqb-true, lt-ltb, le-ltb, eq-eqb, ne-eqb, not-false}
 use Rattle.records.specs.Records.{headLength, sizeAt, kindAt, nextAt}
-use Rattle.scanfile.specs.Faults.{wrongSize, mostOf, recordFault}
+use Rattle.units.specs.Units.{knownUnit}
+use Rattle.scanfile.specs.Faults.{wrongSize, mostOf, recordFault, unitIn, flagsIn, optionsFault}
 
 -- the record at an offset is of the kind, and its payload is as long as it may be and is all there
 pub record GoodRecord (bytes : List ℕ) (kind at : ℕ) : Type 0 where
@@ -82,3 +83,22 @@ whole-size no-options no-margin p = eqb-true _ _ (not-false _ (rw (no-options, n
 
 pub margin-size : {bytes : List ℕ} {at : ℕ} → GoodRecord bytes 4 at → sizeAt bytes at % 4 ≡ 0
 margin-size p = eqb-true _ _ (not-false _ (p .size-right))
+
+-- ---- the options
+
+-- no number, so the unit is known, and no other flag bit than 0 and 1 is set
+options-hold : (u f : Bool) → _≡_ {A = ℕ} (cond (not u) 24 (cond f 26 0)) 0 → (u ≡ true) × (f ≡ false)
+options-hold false f e = absurd (omega arith)
+options-hold true true e = absurd (omega arith)
+options-hold true false e = (refl, refl)
+
+pub options-passed : (bytes : List ℕ) → optionsFault bytes ≡ 0 → (knownUnit (unitIn bytes) ≡ true) × (flagsIn bytes ≤ 3)
+unfolding optionsFault
+options-passed bytes e =
+    let o = options-hold (knownUnit (unitIn bytes)) (ltb 3 (flagsIn bytes)) e in
+    (o .0, ltb-false 3 (flagsIn bytes) (o .1))
+
+-- and back
+pub options-pass : (bytes : List ℕ) → knownUnit (unitIn bytes) ≡ true → flagsIn bytes ≤ 3 → optionsFault bytes ≡ 0
+unfolding optionsFault
+options-pass bytes known few = rw (known, le-ltb 3 (flagsIn bytes) few) refl

@@ -8,6 +8,7 @@ use mathlib.Core.Option.{Option, none, some}
 use mathlib.Core.List.{List, [], _∷_, _++_, map}
 use lib.ListN.{length, getD, drop, drop-of-length-le}
 use lib.Ieee.{binary32, ofBits}
+use Rattle.units.proofs.UnitLaws.{number-of-unit}
 use Rattle.records.specs.Words.{twoBytes, fourBytes, numbersFrom, asFours}
 use Rattle.records.specs.Records.{headLength, sizeAt, kindAt, recordsBytes}
 use Rattle.records.proofs.WordLaws.{numbers-count, read-two, read-four, read-fours, two-then, four-then, fours-then, fours-length}
@@ -20,7 +21,7 @@ use Rattle.scanfile.specs.Contents.{pointsOf, faceNumbersOf, marginOf}
 use Rattle.scanfile.specs.Facts.{EndsThird, EndsFourth, GoodFile}
 use Rattle.scanfile.specs.Files.{Contents, optionsRecord, pointsRecord, facesRecord, marginRecord, marginRecords, fileOf, named, endWith, Writable, headFor, marginIn, contentsOf}
 use Rattle.scanfile.proofs.ScanLaws.{no-head, a-head}
-use Rattle.scanfile.proofs.GoodLaws.{good-file, file-good, not-marked, is-marked}
+use Rattle.scanfile.proofs.GoodLaws.{good-file, file-good, unit-known, not-marked, is-marked}
 
 -- ---- a good file is the one that would be written from what it holds
 
@@ -48,7 +49,7 @@ module _ (bytes : List ℕ) (h : Head) (good : scanOf bytes ≡ Good h) where
   good-writable =
       let g = good-file bytes h good in
       record {
-        unit-known = rw (g .head-is) at (g .unit-known);
+        unit-known = unit-known g;
         flags-known = g .flags-known;
         points-count = numbers-count bytes pointsAt (3 * h .points);
         points-most = g .points-most;
@@ -217,7 +218,7 @@ module _ (c : Contents) (v f : ℕ) (w : Writable c v f) where
         points-most = w .points-most;
         faces-most = w .faces-most;
         margin-most = w .margin-most;
-        unit-known = w .unit-known;
+        unit-is = g .unit ∙ sym (number-of-unit (c .unit) (w .unit-known));
         flags-known = rw (g .flags) (w .flags-known);
       }
 

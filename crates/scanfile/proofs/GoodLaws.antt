@@ -8,32 +8,19 @@ use mathlib.Core.List.{List}
 use mathlib.Core.Bool.{Bool, true, false, not, cond}
 use lib.Dec.{ltb, eqb}
 use lib.ListN.{length}
-use borrow.Author.Tests.{ltb-false, eqb-true, le-ltb}
-use Rattle.lists.proofs.TestLaws.{by-test, either-of}
+use borrow.Author.Tests.{ltb-false}
+use Rattle.lists.proofs.TestLaws.{by-test}
+use Rattle.units.specs.Units.{knownUnit}
+use Rattle.units.proofs.UnitLaws.{number-known, number-of-unit}
 use Rattle.records.specs.Records.{headLength, sizeAt, kindAt, nextAt}
 use Rattle.scanfile.specs.declared.Head.{Head}
 use Rattle.scanfile.specs.declared.Scan.the-variants.{Good}
 use Rattle.scanfile.specs.Layout.{secondAt, thirdAt, fourthAt, thirdAfter, endAfter, marginAt, marked, lastEnd}
-use Rattle.scanfile.specs.Faults.{unitIn, flagsIn, recordFault, knownUnit, optionsFault}
+use Rattle.scanfile.specs.Faults.{unitIn, recordFault, optionsFault}
 use Rattle.scanfile.specs.Scans.{headOf, refuse, fourthFault, afterLast, afterThird, scanOf}
 use Rattle.scanfile.specs.Facts.{EndsThird, EndsFourth, GoodFile}
-use Rattle.scanfile.proofs.FaultLaws.{GoodRecord, passed, passes, options-size, whole-size, margin-size}
+use Rattle.scanfile.proofs.FaultLaws.{GoodRecord, passed, passes, options-size, whole-size, margin-size, options-passed, options-pass}
 use Rattle.scanfile.proofs.ScanLaws.{afterSecond, afterOptions, not-refused, NoneRefused, three-passed, no-head, a-head, margin-passed, margin-absent, all-good}
-
--- ---- the options
-
--- unit 1 or 2, and flags up to 3
-options-passed : (u f : Bool) → _≡_ {A = ℕ} (cond (not u) 24 (cond f 26 0)) 0 → (u ≡ true) × (f ≡ false)
-options-passed false f e = absurd (omega arith)
-options-passed true true e = absurd (omega arith)
-options-passed true false e = (refl, refl)
-
-pub unit-of : (u : ℕ) → knownUnit u ≡ true → (u ≡ 1) ⊎ (u ≡ 2)
-unit-of u known = either-of (eqb u 1) (eqb u 2) known (λ e. inl (eqb-true u 1 e)) (λ e. inr (eqb-true u 2 e))
-
-pub known-unit : (u : ℕ) → (u ≡ 1) ⊎ (u ≡ 2) → knownUnit u ≡ true
-known-unit u (inl e) = rw e refl
-known-unit u (inr e) = rw e refl
 
 -- ---- all tests of a good file
 
@@ -103,13 +90,12 @@ module _ {bytes : List ℕ} {h : Head} (p : AllPassed bytes h) (here : fourthAt 
 -- ---- good, and what that is
 
 pub good-file : (bytes : List ℕ) (h : Head) → scanOf bytes ≡ Good h → GoodFile bytes h
-unfolding optionsFault
 good-file bytes h e =
     let p = all-passed bytes h e in
     let first = passed bytes 1 0 (p .none-refused .first) in
     let second = passed bytes 2 secondAt (p .none-refused .second) in
     let third = passed bytes 3 (thirdAt bytes) (p .none-refused .third) in
-    let o = options-passed (knownUnit (unitIn bytes)) (ltb 3 (flagsIn bytes)) (p .none-refused .options) in
+    let o = options-passed bytes (p .none-refused .options) in
     let points : h .points ≡ sizeAt bytes secondAt / 12 = ap (λ (x : Head). x .points) (p .head-is) in
     let faces : h .faces ≡ sizeAt bytes (thirdAt bytes) / 12 = ap (λ (x : Head). x .faces) (p .head-is) in
     let second-size : sizeAt bytes secondAt ≡ 12 * h .points = omega (arith, whole-size refl refl second) in
@@ -128,9 +114,13 @@ good-file bytes h e =
       points-most = omega (arith, second .size-most);
       faces-most = omega (arith, third .size-most);
       margin-most = few-named p here (third .room);
-      unit-known = rw (p .head-is) (unit-of (unitIn bytes) (o .0));
-      flags-known = ltb-false 3 (flagsIn bytes) (o .1);
+      unit-is = rw (p .head-is) (sym (number-of-unit (unitIn bytes) (o .0)));
+      flags-known = o .1;
     }
+
+-- its unit is known
+pub unit-known : {bytes : List ℕ} {h : Head} → GoodFile bytes h → knownUnit (unitIn bytes) ≡ true
+unit-known {bytes} {h} g = rw (g .unit-is) (number-known (h .unit))
 
 -- a length that leaves no rest is one that 23 lets through
 no-rest : (rest : ℕ) → rest ≡ 0 → not (eqb rest 0) ≡ false
@@ -165,10 +155,8 @@ module _ {bytes : List ℕ} {h : Head} (g : GoodFile bytes h) where
 
   -- the first three records pass
   none-refused : NoneRefused bytes
-  unfolding optionsFault
   none-refused =
       let kind : kindAt bytes (thirdAt bytes) ≡ 3 = rw third-place (g .third-kind) in
-      let unit : (unitIn bytes ≡ 1) ⊎ (unitIn bytes ≡ 2) = rw (g .head-is) at (g .unit-known) in
       let size = third-size in
       let place = third-place in
       let first : GoodRecord bytes 1 0 =
@@ -179,7 +167,7 @@ module _ {bytes : List ℕ} {h : Head} (g : GoodFile bytes h) where
       record { kind-right = kind; size-right = no-rest (sizeAt bytes (thirdAt bytes) % 12) (omega arith); size-most = omega arith; room = omega arith } in
       record {
         first = passes bytes 1 0 first;
-        options = rw (known-unit (unitIn bytes) unit, le-ltb 3 (flagsIn bytes) (g .flags-known)) refl;
+        options = options-pass bytes (unit-known g) (g .flags-known);
         second = passes bytes 2 secondAt second;
         third = passes bytes 3 (thirdAt bytes) third;
       }

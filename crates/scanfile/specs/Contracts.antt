@@ -2,18 +2,22 @@
 use Prim.Native.Nat.{ℕ, _+_, _*_, _≤_, _<_}
 use mathlib.Core.Path.{_≡_}
 use mathlib.Core.List.{List}
+use mathlib.Core.Bool.{true}
 use lib.ListN.{length}
 use lib.Ieee.{Float}
+use Rattle.units.specs.Units.{knownUnit}
 use Rattle.records.specs.Records.{sizeAt, nextAt}
 use Rattle.scanfile.specs.declared.Head.{Head}
+use Rattle.scanfile.specs.Faults.{unitIn}
 use Rattle.scanfile.specs.Layout.{secondAt, thirdAt, thirdAfter, endAfter, marginAt}
 
--- the first three records are there, within the program's limits, and the third begins at an offset
+-- the first three records are there, within the program's limits, the unit is known, and the third record begins at an offset
 pub record ThreeThere (bytes : List ℕ) (third : ℕ) : Type 0 where
   pub third-is : third ≡ thirdAt bytes
   pub third-most : third ≤ 1560
   pub size-most : sizeAt bytes third ≤ 3072
   pub there : nextAt bytes third ≤ length bytes
+  pub unit-known : knownUnit (unitIn bytes) ≡ true
 
 -- so many points are there, and room for them
 pub record PointsThere (bytes : List ℕ) (points : ℕ) (out : List Float) : Type 0 where

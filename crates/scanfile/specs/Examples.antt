@@ -7,6 +7,7 @@ use mathlib.Core.Bool.{true, false}
 use lib.ListN.{take, set}
 use lib.IntN.{pos, negsuc}
 use lib.Ieee.{Float, nan, fin, ofBits}
+use Rattle.units.specs.declared.Unit.the-variants.{Millimetre, Micrometre}
 use Rattle.placement.specs.declared.Limit.the-variants.{Unlimited, AtMost}
 use Rattle.records.specs.Words.{numbersFrom}
 use Rattle.scanfile.specs.declared.Head.{Head}
@@ -48,7 +49,7 @@ square =
 
 -- the square's head, with a margin of so many points
 abbrev headWith : ℕ → Head
-headWith m = record { unit = 1; preserve = false; limit = Unlimited; ratio = half; points = 5; faces = 4; margin = m }
+headWith m = record { unit = Millimetre; preserve = false; limit = Unlimited; ratio = half; points = 5; faces = 4; margin = m }
 
 -- a head of kind 4, with a payload of low + 256 * high bytes
 abbrev fourth : ℕ → ℕ → List ℕ
@@ -90,12 +91,12 @@ examples =
     -- both flags, with the limit 2.0, and micrometre
     ∷ (
       set (set (set square 8 3) 17 0x40) 6 2,
-      Good (record { unit = 2; preserve = true; limit = AtMost two; ratio = half; points = 5; faces = 4; margin = 0 }),
+      Good (record { unit = Micrometre; preserve = true; limit = AtMost two; ratio = half; points = 5; faces = 4; margin = 0 }),
     )
     -- a limit without its flag is not looked at
     ∷ (set square 17 0x40, Good (headWith 0))
     -- a ratio that is NaN is for the thinner to refuse
-    ∷ (set (set square 12 0xc0) 13 0x7f, Good (record { unit = 1; preserve = false; limit = Unlimited; ratio = nan; points = 5; faces = 4; margin = 0 }))
+    ∷ (set (set square 12 0xc0) 13 0x7f, Good (record { unit = Millimetre; preserve = false; limit = Unlimited; ratio = nan; points = 5; faces = 4; margin = 0 }))
     -- a margin of two points, and one that names none
     ∷ (marginSquare, Good (headWith 2))
     ∷ (square ++ fourth 0 0, Good (headWith 0))

@@ -4,10 +4,11 @@ use mathlib.Core.Path.{_≡_}
 use mathlib.Core.Logic.{_⊎_}
 use mathlib.Core.List.{List}
 use lib.ListN.{length}
+use Rattle.units.specs.Units.{unitNumber}
 use Rattle.records.specs.Records.{sizeAt, kindAt}
 use Rattle.scanfile.specs.declared.Head.{Head}
 use Rattle.scanfile.specs.Layout.{secondAt, thirdAfter, endAfter, marginAt}
-use Rattle.scanfile.specs.Faults.{flagsIn}
+use Rattle.scanfile.specs.Faults.{unitIn, flagsIn}
 use Rattle.scanfile.specs.Scans.{headOf}
 
 -- a file ends with its third record
@@ -39,5 +40,5 @@ pub record GoodFile (bytes : List ℕ) (h : Head) : Type 0 where
   pub faces-most : h .faces ≤ 256
   pub margin-most : h .margin ≤ 128
   -- millimetre or micrometre, and no other flag bit than 0 and 1
-  pub unit-known : (h .unit ≡ 1) ⊎ (h .unit ≡ 2)
+  pub unit-is : unitIn bytes ≡ unitNumber (h .unit)
   pub flags-known : flagsIn bytes ≤ 3

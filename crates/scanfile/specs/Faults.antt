@@ -1,9 +1,10 @@
 -- What a record is refused by: document 01, "File refusals, per record in order"; for kind 4 document 02, wish 2.
 use Prim.Native.Nat.{ℕ, _+_, _*_, _%_}
 use mathlib.Core.List.{List}
-use mathlib.Core.Bool.{Bool, not, _||_, cond}
+use mathlib.Core.Bool.{Bool, not, cond}
 use lib.Dec.{ltb, eqb}
 use lib.ListN.{length}
+use Rattle.units.specs.Units.{knownUnit}
 use Rattle.records.specs.Words.{twoBytes, fourBytes}
 use Rattle.records.specs.Records.{headLength, sizeAt, kindAt, nextAt}
 use Rattle.scanfile.specs.Layout.{mostPoints, mostFaces, mostMargin, unitAt, flagsAt}
@@ -34,16 +35,12 @@ recordFault bytes kind at =
     (cond (ltb (length bytes) (nextAt bytes at)) 21
     0))))
 
--- the unit and the flags
+-- the unit's number and the flags
 abbrev pub unitIn : List ℕ → ℕ
 unitIn bytes = twoBytes bytes unitAt
 
 abbrev pub flagsIn : List ℕ → ℕ
 flagsIn bytes = twoBytes bytes flagsAt
-
--- 24: a unit is 1 millimetre or 2 micrometre
-abbrev pub knownUnit : ℕ → Bool
-knownUnit unit = eqb unit 1 || eqb unit 2
 
 -- the number that refuses the first record's payload, or 0: 24 unit, 26 other flag bits than 0 and 1
 unfoldable pub optionsFault : List ℕ → ℕ

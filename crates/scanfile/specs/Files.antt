@@ -1,13 +1,13 @@
 -- A file as it is written: the records of documents 01 and 02, from what stands in them.
 use Prim.Native.Nat.{ℕ, _+_, _*_, _/_, _%_, _≤_}
 use mathlib.Core.Path.{_≡_}
-use mathlib.Core.Logic.{_⊎_}
 use mathlib.Core.List.{List, [], _∷_, _++_}
 use mathlib.Core.Option.{Option, none, some}
-use mathlib.Core.Bool.{cond}
+use mathlib.Core.Bool.{true, cond}
 use lib.Dec.{eqb}
 use lib.ListN.{length}
 use lib.Ieee.{binary32, ofBits}
+use Rattle.units.specs.Units.{knownUnit, unitOf}
 use Rattle.placement.specs.Choices.{limitOf}
 use Rattle.records.specs.Words.{fourBytes, numbersFrom, asTwo, asFour, asFours}
 use Rattle.records.specs.Records.{Record, recordsBytes}
@@ -63,7 +63,7 @@ endWith v f (some numbers) = marginAt v f + 4 * length numbers
 
 -- what a good file may hold, with v points and f faces
 pub record Writable (c : Contents) (v f : ℕ) : Type 0 where
-  pub unit-known : (c .unit ≡ 1) ⊎ (c .unit ≡ 2)
+  pub unit-known : knownUnit (c .unit) ≡ true
   pub flags-known : c .flags ≤ 3
   pub points-count : length (c .points) ≡ 3 * v
   pub points-most : v ≤ 128
@@ -75,7 +75,7 @@ pub record Writable (c : Contents) (v f : ℕ) : Type 0 where
 abbrev pub headFor : Contents → ℕ → ℕ → Head
 headFor c v f =
     record {
-      unit = c .unit;
+      unit = unitOf (c .unit);
       preserve = eqb (c .flags % 2) 1;
       limit = limitOf (eqb (c .flags / 2 % 2) 1) (ofBits binary32 (c .limit));
       ratio = ofBits binary32 (c .ratio);

@@ -4,6 +4,7 @@ use mathlib.Core.List.{List}
 use mathlib.Core.Bool.{Bool, cond}
 use lib.Dec.{ltb, eqb}
 use lib.ListN.{length}
+use Rattle.units.specs.Units.{unitOf}
 use Rattle.placement.specs.Choices.{limitOf}
 use Rattle.records.specs.Words.{fourBytes, floatAt}
 use Rattle.records.specs.Records.{sizeAt}
@@ -28,7 +29,7 @@ marginCount bytes = cond (marked bytes) (sizeAt bytes (fourthAt bytes) / 4) 0
 abbrev pub headOf : List ℕ → Head
 headOf bytes =
     record {
-      unit = unitIn bytes;
+      unit = unitOf (unitIn bytes);
       preserve = preserveIn bytes;
       limit = limitOf (limitedIn bytes) (floatAt bytes limitAt);
       ratio = floatAt bytes ratioAt;

@@ -2,6 +2,7 @@
 use Prim.Native.Nat.{ℕ}
 use mathlib.Core.List.{List, [], _∷_}
 use mathlib.Core.Bool.{cond}
+use Rattle.units.specs.Units.{unitNumber}
 use Rattle.placement.specs.declared.Limit.{Limit}
 use Rattle.placement.specs.declared.Limit.the-variants.{Unlimited, AtMost}
 use Rattle.records.specs.Words.{fourBytes}
@@ -29,5 +30,5 @@ limitPattern bytes (AtMost most) = fourBytes bytes limitAt
 unfoldable pub cellsOf : List ℕ → Scan → List ℕ
 unfolding fourBytes
 cellsOf bytes (Good h) =
-    h .unit ∷ cond (h .preserve) 1 0 ∷ limited (h .limit) ∷ limitPattern bytes (h .limit) ∷ fourBytes bytes ratioAt ∷ h .points ∷ h .faces ∷ h .margin ∷ 0 ∷ []
+    unitNumber (h .unit) ∷ cond (h .preserve) 1 0 ∷ limited (h .limit) ∷ limitPattern bytes (h .limit) ∷ fourBytes bytes ratioAt ∷ h .points ∷ h .faces ∷ h .margin ∷ 0 ∷ []
 cellsOf bytes (Bad n place) = 0 ∷ 0 ∷ 0 ∷ 0 ∷ 0 ∷ 0 ∷ 0 ∷ 0 ∷ place ∷ []

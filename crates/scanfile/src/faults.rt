@@ -3,7 +3,7 @@ ghost use mathlib.Core.Path.{_≡_};
 ghost use Prim.Native.Nat.{_≤_};
 ghost use lib.ListN.{length};
 ghost use Rattle.scanfile.specs.Layout.{hasHead};
-ghost use Rattle.scanfile.specs.Faults.{wrongSize, mostOf, recordFault, knownUnit, optionsFault};
+ghost use Rattle.scanfile.specs.Faults.{wrongSize, mostOf, recordFault, optionsFault};
 use crate::layout::FLAGS_AT;
 use crate::layout::MOST_FACES;
 use crate::layout::MOST_MARGIN;
@@ -12,6 +12,7 @@ use crate::layout::UNIT_AT;
 use records::HEAD_LENGTH;
 use records::four_bytes;
 use records::two_bytes;
+use units::is_unit;
 
 // 23: kind 1 not 12 long, kind 4 no multiple of 4, or another no multiple of 12.
 fn is_wrong_size(kind: u32, size: usize) -> bool
@@ -73,13 +74,6 @@ pub fn record_fault(bytes: &[u8], kind: u32, at: usize) -> u32
     } else {
         0
     }
-}
-
-// 24: whether a unit is 1 millimetre or 2 micrometre.
-pub fn is_unit(unit: u32) -> bool
-    ensures { λ r. ⌜ r ≡ knownUnit unit ⌝ }
-{
-    (unit == 1) | (unit == 2)
 }
 
 // The number that refuses the first record's payload, or 0: the unit, then the flags.

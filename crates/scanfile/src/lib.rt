@@ -22,6 +22,8 @@ use records::HEAD_LENGTH;
 use records::float_at;
 use records::four_bytes;
 use records::two_bytes;
+use units::Unit;
+use units::unit_of;
 
 pub mod faults;
 pub mod layout;
@@ -33,8 +35,7 @@ pub const MOST_BYTES: usize = 5156;
 
 // What a good file says beside its points, its faces and the margin.
 pub struct Head {
-    // 1 millimetre, 2 micrometre
-    pub unit: u32,
+    pub unit: Unit,
     pub preserve: bool,
     pub limit: Limit,
     pub ratio: f32,
@@ -59,7 +60,7 @@ fn head_of(bytes: &[u8], third: usize, margin: usize) -> Head
     let flags = two_bytes(bytes, FLAGS_AT);
     let limit = limit_of(flags / 2 % 2 == 1, float_at(bytes, LIMIT_AT));
     Head {
-        unit: two_bytes(bytes, UNIT_AT),
+        unit: unit_of(two_bytes(bytes, UNIT_AT)),
         preserve: flags % 2 == 1,
         limit,
         ratio: float_at(bytes, RATIO_AT),

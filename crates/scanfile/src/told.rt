@@ -14,6 +14,7 @@ use crate::layout::RATIO_AT;
 use crate::read_scan;
 use placement::Limit;
 use records::four_bytes;
+use units::unit_number;
 
 // 1 where there is a limit.
 fn is_limited(limit: Limit) -> u32
@@ -48,9 +49,10 @@ fn tell_good(bytes: &[u8], h: Head, cells: &mut [u32; 9])
     requires { ⌜ Tellable (now bytes) h ⌝ }
     ensures { λ _. ⌜ now (cells .exit) ≡ cellsOf (now (bytes .entry)) (Scan.Good h) ⌝ }
 {
+    let unit = h.unit;
     let limit = h.limit;
     *cells = [
-        h.unit,
+        unit_number(unit),
         yes_as_one(h.preserve),
         is_limited(limit),
         limit_pattern(bytes, limit),

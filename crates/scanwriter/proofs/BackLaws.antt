@@ -11,6 +11,8 @@ use lib.Seq.{take-at, drop-at}
 use lib.Ieee.{Float, nan, binary32, fits, isNan, ofBits, toBits}
 use lib.Ieee.Bits.{ofBits-toBits, toBits-ofBits}
 use Rattle.lists.proofs.OverlayLaws.{length-over}
+use Rattle.units.specs.Units.{unitNumber}
+use Rattle.units.proofs.UnitLaws.{number-known, number-of-unit}
 use Rattle.records.specs.Words.{fourBytes, numbersFrom}
 use Rattle.records.proofs.WordLaws.{numbers-count, number-at, four-small}
 use Rattle.scanfile.specs.declared.Head.{Head}
@@ -63,6 +65,7 @@ module _ {unit : ℕ} {points : List Float} {faces file : List ℕ} (fit : ScanF
       let count : length points ≡ 3 * v = fit .points-by-three in
       record {
         good = written-good c v f w;
+        unit-is = number-of-unit unit (fit .unit-known);
         point-bits = rw count (found c v f w (fileOf c) refl .points);
         points-are = written-points c v f w ∙ bits-back points floats;
         faces-are = written-faces c v f w;
@@ -132,12 +135,12 @@ module _ (bytes : List ℕ) (h : Head) (good : scanOf bytes ≡ Good h) where
       let f = h .faces in
       let points = pointsOf bytes v in
       let faces = faceNumbersOf bytes v f in
-      let c = scanContents (h .unit) points faces in
+      let c = scanContents (unitNumber (h .unit)) points faces in
       let g = good-file bytes h good in
       let by-three : length points ≡ 3 * v = length-map (numbersFrom bytes pointsAt (3 * v)) (ofBits binary32) ∙ numbers-count bytes pointsAt (3 * v) in
       let w : Writable c v f =
       record {
-        unit-known = g .unit-known;
+        unit-known = number-known (h .unit);
         flags-known = omega arith;
         points-count = length-map points (toBits binary32) ∙ by-three;
         points-most = g .points-most;
@@ -156,7 +159,7 @@ module _ (bytes : List ℕ) (h : Head) (good : scanOf bytes ≡ Good h) where
       let v = h .points in
       let f = h .faces in
       let numbers = numbersFrom bytes pointsAt (3 * v) in
-      let unit : h .unit ≡ unitIn bytes = ap (λ (x : Head). x .unit) (good-file bytes h good .head-is) in
+      let unit : unitNumber (h .unit) ≡ unitIn bytes = sym (good-file bytes h good .unit-is) in
       let count : length numbers ≡ 3 * v = numbers-count bytes pointsAt (3 * v) in
       let points : map (toBits binary32) (map (ofBits binary32) numbers) ≡ numbers =
       patterns-back numbers
@@ -164,6 +167,6 @@ module _ (bytes : List ℕ) (h : Head) (good : scanOf bytes ≡ Good h) where
       let within : i < 3 * v = omega (arith, count) in
       rw (number-at bytes pointsAt (3 * v) i within)
       (pattern-back (fourBytes bytes (pointsAt + 4 * i)) (four-small bytes small (pointsAt + 4 * i)) (one .pattern i within))) in
-      let held : scanContents (h .unit) (pointsOf bytes v) (faceNumbersOf bytes v f) ≡ contentsOf bytes h =
+      let held : scanContents (unitNumber (h .unit)) (pointsOf bytes v) (faceNumbersOf bytes v f) ≡ contentsOf bytes h =
       rw (unit, points, zeros .flags, zeros .ratio, zeros .limit, unmarked .absent) refl in
       ap fileOf held ∙ sym (good-written bytes h good small)

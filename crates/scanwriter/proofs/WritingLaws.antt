@@ -11,13 +11,12 @@ use lib.Ieee.{Float, binary32, toBits}
 use borrow.Author.Tests.{ltb-false, eqb-true, le-ltb}
 use Rattle.lists.specs.Puts.{Put}
 use Rattle.lists.proofs.PutLaws.{none, wider, both, whole}
+use Rattle.units.specs.Units.{knownUnit}
 use Rattle.records.specs.Words.{asFours}
 use Rattle.records.specs.Records.{headBytes, recordBytes, recordsBytes}
 use Rattle.records.proofs.WordLaws.{fours-length}
 use Rattle.scanfile.specs.Layout.{mostPoints, mostFaces, secondAt, thirdAfter}
-use Rattle.scanfile.specs.Faults.{knownUnit}
 use Rattle.scanfile.specs.Files.{optionsRecord}
-use Rattle.scanfile.proofs.GoodLaws.{unit-of, known-unit}
 use Rattle.scanwriter.specs.declared.Writing.{Writing}
 use Rattle.scanwriter.specs.declared.Writing.the-variants.{Bytes, Refused}
 use Rattle.scanwriter.specs.Written.{scanContents, scanBytes, scanRoom, writingOf, bufferAfter, ScanWritten}
@@ -61,7 +60,7 @@ fits unit points faces file n e =
       record {
         points-by-three = omega (arith, eqb-true (p % 3) 0 (t .points-by-three));
         faces-by-three = omega (arith, eqb-true (f % 3) 0 (t .faces-by-three));
-        unit-known = unit-of unit (t .unit-known);
+        unit-known = t .unit-known;
         points-most = ltb-false _ _ (t .few-points);
         faces-most = ltb-false _ _ (t .few-faces);
         room = ltb-false _ _ (t .enough);
@@ -78,7 +77,7 @@ taken {unit} {points} {faces} {file} fit =
     let f = length faces in
     let points-even : p % 3 ≡ 0 = omega arith in
     let faces-even : f % 3 ≡ 0 = omega arith in
-    rw (points-even, faces-even, known-unit unit (fit .unit-known), le-ltb _ _ (fit .points-most), le-ltb _ _ (fit .faces-most), le-ltb _ _ (fit .room)) refl
+    rw (points-even, faces-even, fit .unit-known, le-ltb _ _ (fit .points-most), le-ltb _ _ (fit .faces-most), le-ltb _ _ (fit .room)) refl
 
 -- ---- the three records, one after another
 

@@ -8,8 +8,8 @@ use lib.Dec.{ltb, eqb}
 use lib.ListN.{length}
 use lib.Ieee.{Float, binary32, toBits}
 use Rattle.lists.specs.Lists.{overlaid}
+use Rattle.units.specs.Units.{knownUnit}
 use Rattle.scanfile.specs.Layout.{mostPoints, mostFaces, secondAt, thirdAfter, endAfter}
-use Rattle.scanfile.specs.Faults.{knownUnit}
 use Rattle.scanfile.specs.Files.{Contents, fileOf}
 use Rattle.scanwriter.specs.declared.Writing.{Writing}
 use Rattle.scanwriter.specs.declared.Writing.the-variants.{Bytes, Refused}

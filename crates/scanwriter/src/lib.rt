@@ -15,11 +15,11 @@ use bits::patterns::bits_of_f32;
 use records::put_four;
 use records::put_head;
 use records::put_two;
-use scanfile::faults::is_unit;
 use scanfile::layout::MOST_FACES;
 use scanfile::layout::MOST_POINTS;
 use scanfile::layout::POINTS_AT;
 use scanfile::layout::SECOND_AT;
+use units::is_unit;
 
 // What writing came to: so many bytes; or a refusal by a number, 1, 24, 27 or 31, and a place, and nothing was written.
 pub enum Writing {

@@ -14,7 +14,6 @@ use meaning::Answer;
 use meaning::Options;
 use meaning::Rooms;
 use meaning::Verdict;
-use walking::BOUND;
 use walking::Came;
 use walking::Engine;
 use walking::walked;
@@ -172,7 +171,7 @@ pub fn thin(
         f32s: work_f32.len(),
         f64s: work_f64.len(),
     };
-    match checks::verdict_of(points, faces, margin, rooms, options, BOUND) {
+    match checks::verdict_of(points, faces, margin, rooms, options) {
         Verdict::Refused(number, place) => refusal(number, place),
         Verdict::Copied => copied(
             points,

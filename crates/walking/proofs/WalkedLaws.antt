@@ -14,7 +14,7 @@ use Rattle.memory.specs.Points.{meshOf}
 use Rattle.plainwalk.specs.declared.Walked.{Walked}
 use Rattle.plainwalk.specs.Whole.{WalkDone}
 use Rattle.plainwalk.proofs.Theorems.{plain-walk-fewer}
-use Rattle.meaning.specs.Input.{Input, pointsIn, facesIn}
+use Rattle.meaning.specs.Input.{Input, pointsIn, facesIn, boundIn}
 use Rattle.meaning.specs.Outcome.{startOf, targetOf, lastMesh, foldsWalked}
 use Rattle.meaning.specs.Call.{listed}
 use Rattle.placement.specs.declared.Limit.{Limit}
@@ -51,7 +51,7 @@ module _ {engine : Engine} {v f target : ℕ} {limit : Limit} {bound : Float} {w
 
 module _ {engine : Engine} (i : Input) {target fixed : ℕ} {u w w' : List ℕ} {pu qu p q p' q' : List Float} {r : Walked} (aim : target ≡ targetOf i)
     (laid : LaidOut (pointsIn i) (facesIn i) (i .points) (i .faces) (i .options .preserve) (i .margin) u pu qu w p q fixed)
-    (walked : WalkedBy engine (pointsIn i) (facesIn i) target (i .options .limit) (i .bound) w p q w' p' q' r) where
+    (walked : WalkedBy engine (pointsIn i) (facesIn i) target (i .options .limit) (boundIn i) w p q w' p' q' r) where
   last-mesh : meshOf (pointsIn i) (facesIn i) w' p' q' ≡ lastMesh i
   unfolding lastMesh startOf
   last-mesh = walked .done .same-mesh ∙ rw (laid .same-mesh, aim)

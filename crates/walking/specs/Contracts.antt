@@ -14,14 +14,16 @@ use Rattle.mesh.specs.Contracts.Chains.{Tidy}
 use Rattle.ring.specs.Contracts.Kinds.{NamesPoints}
 use Rattle.plainwalk.specs.Steps.{Within}
 use Rattle.meaning.specs.declared.Options.{Options}
-use Rattle.meaning.specs.Input.{Input, pointsIn, facesIn}
+use Rattle.meaning.specs.Input.{Input, pointsIn, facesIn, boundIn}
 use Rattle.meaning.specs.Start.{fixedCount, startMesh}
 use Rattle.meaning.specs.Outcome.{targetOf, lastMesh, foldsWalked, fixedIn}
-use Rattle.meaning.specs.Call.{coordinateBound, listed}
+use Rattle.meaning.specs.Call.{listed}
 use Rattle.plainwalk.specs.declared.Walked.{Walked}
 use Rattle.plainwalk.specs.Whole.{WalkDone}
 use Rattle.heapwalk.specs.Chain.{HeapWalked}
+use Rattle.placement.specs.declared.Bounds.{Bounds}
 use Rattle.placement.specs.declared.Limit.{Limit}
+use Rattle.units.specs.Units.{unitBound, unitOf}
 use Rattle.walking.specs.declared.Came.{Came}
 use Rattle.walking.specs.declared.Engine.{Engine}
 use Rattle.walking.specs.declared.Engine.the-variants.{Heap}
@@ -65,8 +67,11 @@ inputWalked points faces margin options =
       margin = margin;
       rooms = record { points = 0; faces = 0; u32s = 0; f32s = 0; f64s = 0 };
       options = options;
-      bound = coordinateBound;
     }
+
+-- what bounds the pairs of a walk with these options: their limit, and their unit's bound
+abbrev pub boundsOf : Options → Bounds
+boundsOf options = record { limit = options .limit; size = unitBound (unitOf (options .unit)) }
 
 -- What the walk by an engine has done: by either what the plain walk comes to, and by the heap as a chain of steps on the queue.
 pub record WalkedBy (engine : Engine) (v f target : ℕ) (limit : Limit) (bound : Float) (w : List ℕ) (p q : List Float) (w' : List ℕ) (p' q' : List Float) (r : Walked) : Type 0 where
@@ -80,7 +85,7 @@ pub record LaidAndWalked (engine : Engine) (i : Input) (u : List ℕ) (p q : Lis
   pub laid-f64s : List Float
   pub laid : LaidOut (pointsIn i) (facesIn i) (i .points) (i .faces) (i .options .preserve) (i .margin) u p q laid-u32s laid-f32s laid-f64s (came .fixed)
   pub live : ℕ
-  pub by-engine : WalkedBy engine (pointsIn i) (facesIn i) (came .target) (i .options .limit) (i .bound) laid-u32s laid-f32s laid-f64s u' p' q'
+  pub by-engine : WalkedBy engine (pointsIn i) (facesIn i) (came .target) (i .options .limit) (boundIn i) laid-u32s laid-f32s laid-f64s u' p' q'
       (record { folds = came .folds; live = live })
 
 -- an input's last mesh in the work memory, what its walk came to, and its folds listed

@@ -4,15 +4,15 @@ ghost use Prim.Native.Nat.{_+_, _*_, _/_, _≤_, min};
 ghost use lib.ListN.{length};
 ghost use Rattle.memory.specs.Memory.{Room};
 ghost use Rattle.memory.specs.Entries.{foldsIn};
-ghost use Rattle.meaning.specs.Call.{coordinateBound, listed};
-ghost use Rattle.walking.specs.Contracts.{Layable, Walkable, LaidOut, WalkedBy, inputWalked, MeshWalked};
+ghost use mathlib.Core.Bool.{true};
+ghost use Rattle.units.specs.Units.{knownUnit};
+ghost use Rattle.meaning.specs.Call.{listed};
+ghost use Rattle.walking.specs.Contracts.{Layable, Walkable, LaidOut, boundsOf, WalkedBy, inputWalked, MeshWalked};
 use meaning::Options;
 use placement::Bounds;
-use placement::Limit;
 use plainwalk::Walked;
-
-// No coordinate is larger: 1,048,576.
-pub const BOUND: f32 = 1048576.0;
+use units::unit_bound;
+use units::unit_of;
 
 // How the mesh is walked: by every cost worked out anew, or by a queue.
 pub enum Engine {
@@ -49,6 +49,18 @@ fn laid_out(
     fixed
 }
 
+// What bounds the pairs of a walk with these options: their limit, and their unit's bound.
+fn bounds_of(options: Options) -> Bounds
+    requires { ⌜ knownUnit (options .unit) ≡ true ⌝ }
+    ensures { λ r. ⌜ r ≡ boundsOf options ⌝ }
+{
+    let limit = options.limit;
+    Bounds {
+        limit,
+        size: unit_bound(unit_of(options.unit)),
+    }
+}
+
 // Walks the mesh that is laid out.
 fn walk_by(
     engine: Engine,
@@ -58,12 +70,11 @@ fn walk_by(
     v: usize,
     f: usize,
     target: usize,
-    limit: Limit,
+    bounds: Bounds,
 ) -> Walked
     requires { ⌜ Walkable v f (now w) (now p) (now q) ⌝ }
-    ensures { λ r. ⌜ WalkedBy engine v f target limit coordinateBound (now (w .entry)) (now (p .entry)) (now (q .entry)) (now (w .exit)) (now (p .exit)) (now (q .exit)) r ⌝ }
+    ensures { λ r. ⌜ WalkedBy engine v f target (bounds .limit) (bounds .size) (now (w .entry)) (now (p .entry)) (now (q .entry)) (now (w .exit)) (now (p .exit)) (now (q .exit)) r ⌝ }
 {
-    let bounds = Bounds { limit, size: BOUND };
     match engine {
         Engine::Plain => plainwalk::plain_walk(w, p, q, v, f, target, bounds),
         Engine::Heap => heapwalk::heap_walk(w, p, q, v, f, target, bounds),
@@ -101,15 +112,15 @@ pub fn walked(
     q: &mut [f64],
     folds: &mut [u32],
 ) -> Came
-    requires { ⌜ Layable (length (now points) / 3) (length (now faces) / 3) (now points) (now faces) (now margin) (now w) (now p) (now q) ⌝ }
+    requires { ⌜ Layable (length (now points) / 3) (length (now faces) / 3) (now points) (now faces) (now margin) (now w) (now p) (now q) ⌝ ∗ ⌜ knownUnit (options .unit) ≡ true ⌝ }
     ensures { λ r. ⌜ MeshWalked engine (inputWalked (now (points .entry)) (now (faces .entry)) (now (margin .entry)) options) (now (w .entry)) (now (p .entry)) (now (q .entry)) (now (w .exit)) (now (p .exit)) (now (q .exit)) (now (folds .entry)) (now (folds .exit)) r ⌝ }
 {
     let v = points.len() / 3;
     let f = faces.len() / 3;
-    let limit = options.limit;
+    let bounds = bounds_of(options);
     let target = bits::cut::target(options.ratio, f as u32) as usize;
     let fixed = laid_out(points, faces, margin, options.preserve, w, p, q, v, f);
-    let walked = walk_by(engine, w, p, q, v, f, target, limit);
+    let walked = walk_by(engine, w, p, q, v, f, target, bounds);
     list_folds(w, v, f, walked.folds, folds);
     Came {
         target: target,

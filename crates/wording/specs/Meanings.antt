@@ -22,7 +22,7 @@ meanings =
     ∷ (4, "there are no points or no faces", "")
     ∷ (5, "the ratio is not a number from 0 to 1", "")
     ∷ (6, "the length limit is not a number", "")
-    ∷ (7, "a coordinate is not finite or is above the bound", " (coordinate ")
+    ∷ (7, "a coordinate is not finite or above its unit's bound", " (coordinate ")
     ∷ (8, "a face names a point that is not there", " (face ")
     ∷ (9, "a face names one point twice", " (face ")
     ∷ (10, "nothing could be joined, and points are held", " (fixed points: ")

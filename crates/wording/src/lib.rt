@@ -25,7 +25,7 @@ const BAD_RATIO: [u8; 53] = *b"the ratio is not a number from 0 to 1|           
 
 const BAD_LENGTH_LIMIT: [u8; 53] = *b"the length limit is not a number|                    ";
 
-const BAD_COORDINATE: [u8; 53] = *b"a coordinate is not finite or is above the bound|    ";
+const BAD_COORDINATE: [u8; 53] = *b"a coordinate is not finite or above its unit's bound|";
 
 const MISSING_POINT: [u8; 53] = *b"a face names a point that is not there|              ";
 

@@ -10,8 +10,8 @@ use Rattle.checks.proofs.verdict_of.Tie as tie
 is-short-requires : tie.Need-is-short-requires
 is-short-requires c κs = not-large _ _ (search found-not)
 
-check-contents-requires : tie.Need-check-contents-requires
-check-contents-requires c κs = not-large _ _ (search found-not)
+check-measured-requires : tie.Need-check-measured-requires
+check-measured-requires c κs = not-large _ _ (search found-not)
 
 returns : tie.Need-returns
 unfolding verdictOf
@@ -51,7 +51,7 @@ verdict-of-spec =
     (λ c κs. search needs)
     (λ c κs. search needs)
     (λ c κs. search needs)
-    check-contents-requires
+    check-measured-requires
     returns
     returns-2
     returns-3

@@ -14,14 +14,16 @@ returns c =
       third .before .bits-of-f322 .ensures,
       third .bits-of-f323 .ensures,
       place .pair-place .ensures,
-      place .before .vertex-from2 .ensures,
-      place .before .before .before .before .vertex-from .ensures,
+      place .before .f32-of .ensures,
+      place .before .before .vertex-from2 .ensures,
+      place .before .before .before .before .before .vertex-from .ensures,
     )
 
 pub single-place-spec : {M : Type 1} → statement M
 single-place-spec =
     tie.close
     (tie.spec
+    (λ c κs. search needs)
     (λ c κs. search needs)
     (λ c κs. search needs)
     (λ c κs. search needs)

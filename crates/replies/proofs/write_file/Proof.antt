@@ -9,19 +9,22 @@ returns : tie.Need-returns
 returns c =
     let told = c .before in
     let called = told .before .before .before .before in
-    file-replied (λ i. called .before .before .before .shared-slice-known .given i) (called .write-scan .ensures) (told .n .given .1)
+    let named = called .before .before in
+    file-replied (λ i. named .before .before .shared-slice-known .given i) (rw (named .unit-number .ensures) at (called .write-scan .ensures)) (told .n .given .1)
 
 returns-2 : tie.Need-returns-2
 returns-2 c =
     let told = c .before in
     let called = told .before .before .before .before in
-    let start = called .before .before .before .before .before in
-    absurd (never-refused (start .pre .0) (start .pre .1) (called .write-scan .ensures) (told .number .given .1))
+    let named = called .before .before in
+    let start = named .before .before .before .before in
+    absurd (never-refused (start .args .unit) (start .pre .0) (start .pre .1) (rw (named .unit-number .ensures) at (called .write-scan .ensures)) (told .number .given .1))
 
 pub write-file-spec : {M : Type 1} → statement M
 write-file-spec =
     tie.close
     (tie.spec
+    (λ c κs. search needs)
     (λ c κs. search needs)
     (λ c. search needs)
     (λ c. search needs)

@@ -91,7 +91,7 @@ slice-aggregate-write-thinned-3 c = sym (length-take-le _ _ (all-there (c .befor
 write-thinned-requires : tie.Need-write-thinned-requires
 write-thinned-requires c κs =
     let start = entry (cells (points (faces (c .before .before .before .before .before)))) in
-    (start .pre .0, good start .unit-known)
+    start .pre .0
 
 returns : tie.Need-returns
 unfolding replyBy

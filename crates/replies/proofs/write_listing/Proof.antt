@@ -6,8 +6,10 @@ use Rattle.replies.proofs.write_listing.Tie as tie
 
 returns : tie.Need-returns
 returns c =
-    let start = c .before .before .before .before .before .before .before .before in
-    listing-replied _ _ _ _ (start .pre .0) (start .pre .1) (c .before .before .before .list-mesh .ensures) (c .size-in .ensures)
+    let listed = c .before .before .before in
+    let named = listed .before .before in
+    let start = named .before .before .before .before in
+    listing-replied _ _ _ _ (start .pre .0) (start .pre .1) (rw (named .unit-number .ensures) at (listed .list-mesh .ensures)) (c .size-in .ensures)
 
 pub write-listing-spec : {M : Type 1} → statement M
-write-listing-spec = tie.close (tie.spec (λ c κs. search needs) (λ c κs. search needs) (λ c. search needs) returns)
+write-listing-spec = tie.close (tie.spec (λ c κs. search needs) (λ c κs. search needs) (λ c κs. search needs) (λ c. search needs) returns)

@@ -1,6 +1,7 @@
 -- `replies::write_thinned` meets its contract: the library's call leaves the outcome, and its mesh is replied with. Assumes nothing.
 use mathlib.Core.Path.{_≡_}
 use borrow.Author.Needs.{needs}
+use Rattle.units.specs.Units.{unitNumber}
 use Rattle.meaning.specs.Input.{Input}
 use Rattle.meaning.specs.Call.{Lent, lent, inputOf}
 use Rattle.meaning.specs.Outcome.{Outcome, outcome}
@@ -12,7 +13,7 @@ use Rattle.replies.proofs.write_thinned.Tie as tie
 
 -- where the memory is made, from where the library has answered, and the function's entry
 abbrev made : tie.After-thin → tie.After-work-f64-cells
-made c = c .before .before .before .before .before .before .before
+made c = c .before .before .before .before .before .before .before .before
 
 abbrev start : tie.After-thin → tie.Start
 start c = made c .before .before .before .before .before .before .before .before .before
@@ -36,18 +37,22 @@ same c =
     same-call (start c .args .head) (start c .args .points .now) (start c .args .faces .now) (start c .args .margin .now) (memory c)
     (m .before .before .before .before .point-cells .ensures) (m .before .before .before .face-cells .ensures) (m .before .before .work-u32-cells .ensures) (m .before .work-f32-cells .ensures) (m .work-f64-cells .ensures)
 
+-- with the unit's number
+named : (c : tie.After-thin) → c .before .before .before .before .before .before .before .unit-number .result ≡ unitNumber (start c .args .head .unit)
+named c = c .before .before .before .before .before .before .before .unit-number .ensures
+
 write-answer-requires : tie.Need-write-answer-requires
 write-answer-requires c κs =
     let called = c .before .before .before .before .before .before .before .before .before in
-    let left = rw (same called) at (called .thin .ensures .thinned .answered) in (
-      start called .pre .0,
-      shown (outcomeHere called) (counted (callHere called)) _ _ (left .answered) (left .points-out) (left .faces-out) (start called .pre .1) (search needs) (search needs),
+    let left = rw (named called, same called) at (called .thin .ensures .thinned .answered) in (
+      start called .pre,
+      shown (outcomeHere called) (counted (callHere called)) _ _ (left .answered) (left .points-out) (left .faces-out) (search needs) (search needs),
     )
 
 returns : tie.Need-returns
 returns c =
     let called = c .before .before .before .before .before .before .before .before .before .before .before .before in
-    let left = rw (same called) at (called .thin .ensures .thinned .answered) in
+    let left = rw (named called, same called) at (called .thin .ensures .thinned .answered) in
     outcome-replied (outcomeHere called) (counted (callHere called)) _ _ (left .answered) (left .points-out) (left .faces-out) (start called .args .wanted) (start called .args .head .unit)
     (c .before .before .write-answer .ensures)
 
@@ -55,6 +60,7 @@ pub write-thinned-spec : {M : Type 1} → statement M
 write-thinned-spec =
     tie.close
     (tie.spec
+    (λ c κs. search needs)
     (λ c κs. search needs)
     (λ c κs. search needs)
     (λ c κs. search needs)

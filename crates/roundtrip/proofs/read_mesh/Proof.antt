@@ -29,9 +29,10 @@ read-faces-requires c κs =
 
 returns : tie.Need-returns
 returns c =
-    let faces = c .before .before in
+    let faces = c .before .before .before in
     let points = faces .before .before .before .before in
-    good-read _ _ (is-good (points .before .before .before)) (points .read-points .ensures) (faces .read-faces .ensures)
+    rw (c .unit-number .ensures)
+    (good-read _ _ (is-good (points .before .before .before)) (points .read-points .ensures) (faces .read-faces .ensures))
 
 returns-2 : tie.Need-returns-2
 returns-2 c = none-read _ _ _ (sym (c .before .before .read-scan .ensures) ∙ c .enum-told .given .1)
@@ -44,6 +45,7 @@ read-mesh-spec =
     (λ c. search needs)
     read-points-requires
     read-faces-requires
+    (λ c κs. search needs)
     (λ c. search needs)
     (λ c. search needs)
     (λ c. search needs)

@@ -6,7 +6,7 @@ use mathlib.Core.Path.{_≡_, sym, ap, _∙_}
 use mathlib.Core.List.{List}
 use Rattle.scanfile.specs.Layout.{secondAt, pointsAt, thirdAt}
 use Rattle.scanfile.specs.Faults.{recordFault, optionsFault}
-use Rattle.scanfile.proofs.FaultLaws.{GoodRecord, passed, options-size}
+use Rattle.scanfile.proofs.FaultLaws.{GoodRecord, passed, options-size, options-passed}
 use Rattle.scanfile.proofs.ScanLaws.{NoneRefused, first-refused, options-refused, second-refused, third-refused, three-passed}
 use borrow.Author.Needs.{needs}
 use Rattle.scanfile.proofs.read_scan.Statement.{statement}
@@ -91,6 +91,7 @@ read-tail-requires c κs =
       third-most = omega (arith, second (secondPassed c) .size-most);
       size-most = rw here (third .size-most);
       there = rw here (third .room);
+      unit-known = options-passed file (none-refused c .options) .0;
     }
 
 returns-5 : tie.Need-returns-5

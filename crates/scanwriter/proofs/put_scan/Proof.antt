@@ -1,13 +1,13 @@
 -- `scanwriter::put_scan` meets its contract, one record after another. Assumes nothing.
 use native.Mathlib.Omega.{arith}
-use mathlib.Core.Logic.{⊎-elim}
 use borrow.Author.Needs.{needs}
+use Rattle.units.proofs.UnitLaws.{number-short}
 use Rattle.scanwriter.proofs.WritingLaws.{scan-put}
 use Rattle.scanwriter.proofs.put_scan.Statement.{statement}
 use Rattle.scanwriter.proofs.put_scan.Tie as tie
 
 put-options-requires : tie.Need-put-options-requires
-put-options-requires c κs = let fit = c .before .before .before .before .pre in (⊎-elim (λ e. omega arith) (λ e. omega arith) (fit .unit-known), omega arith)
+put-options-requires c κs = let fit = c .before .before .before .before .pre in (number-short _ (fit .unit-known), omega arith)
 
 returns : tie.Need-returns
 returns c =

@@ -24,7 +24,7 @@ fine c = verdicts.admitted (input c) (c .pre)
 walked-requires : tie.Need-walked-requires
 walked-requires c κs =
     let start = c .before .before .before .before .before .before .before .before .before .before .before .before .before in
-    ready (start .args .points .now) (start .args .faces .now) (start .args .margin .now) (start .args .options) (buffers start) (fine start)
+    (ready (start .args .points .now) (start .args .faces .now) (start .args .margin .now) (start .args .options) (buffers start) (fine start), fine start .sized .unit-known)
 
 finished-requires : tie.Need-finished-requires
 finished-requires c κs =

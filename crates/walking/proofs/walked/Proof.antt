@@ -15,7 +15,7 @@ abbrev aimed : tie.After-laid-out → tie.After-target
 aimed c = c .before .before .before .before
 
 abbrev begun : tie.After-laid-out → tie.Start
-begun c = aimed c .before .before .before .before .before .before .before .before
+begun c = aimed c .before .before .before .before .before .before .before .before .before
 
 abbrev laid : tie.After-walk-by → tie.After-laid-out
 laid c = c .before .before .before .before .before .before .before .before .before .before
@@ -28,22 +28,25 @@ aim : (c : tie.After-laid-out) → aimed c .target .result ≡ targetOf (input (
 unfolding targetOf
 aim c = aimed c .target .ensures
 
+bounds-of-requires : tie.Need-bounds-of-requires
+bounds-of-requires c κs = let start = c .before .before .before .before .before .before .before in start .pre .1
+
 cast-target : tie.Need-cast-target
-cast-target c = let start = c .before .before .before .before .before .before .before in few-fits (start .pre .working .u32s .faces-few)
+cast-target c = let start = c .before .before .before .before .before .before .before .before in few-fits (start .pre .0 .working .u32s .faces-few)
 
 laid-out-requires : tie.Need-laid-out-requires
-laid-out-requires c κs = let start = c .before .before .before .before .before .before .before .before .before .before .before in start .pre
+laid-out-requires c κs = let start = c .before .before .before .before .before .before .before .before .before .before .before .before in start .pre .0
 
 walk-by-requires : tie.Need-walk-by-requires
 walk-by-requires c κs =
     let stage = c .before .before .before .before .before .before .before .before .before in
-    walk-asked (begun stage .pre .working) (stage .laid-out .ensures)
+    walk-asked (begun stage .pre .0 .working) (stage .laid-out .ensures)
 
 list-folds-requires : tie.Need-list-folds-requires
 list-folds-requires c κs =
     let stage = c .before .before .before .before .before .before .before .before in
     let before = laid stage in
-    let walked = stage .walk-by .ensures in
+    let walked = rw (aimed before .before .bounds-of .ensures) at (stage .walk-by .ensures) in
     (walked .done .tidy .room, folds-few (input (begun before)) (aim before) (before .laid-out .ensures) walked)
 
 same-length : tie.Need-same-length
@@ -64,12 +67,13 @@ returns c =
     let stage = listed .before .before .before .before .before .before .before .before .before in
     let before = laid stage in
     let start = begun before in
-    mesh-walked (input start) (aim before) (before .laid-out .ensures) (stage .walk-by .ensures) (start .args .folds .now) (listed .list-folds .ensures)
+    mesh-walked (input start) (aim before) (before .laid-out .ensures) (rw (aimed before .before .bounds-of .ensures) at (stage .walk-by .ensures)) (start .args .folds .now) (listed .list-folds .ensures)
 
 pub walked-spec : {M : Type 1} → statement M
 walked-spec =
     tie.close
     (tie.spec
+    bounds-of-requires
     cast-target
     (λ c κs. search needs)
     laid-out-requires

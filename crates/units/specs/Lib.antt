@@ -1,0 +1,2 @@
+-- What a unit stands for.
+pub mod Units
