@@ -1,12 +1,11 @@
 -- On the way no error at a place that is compared, no cost and no length of a pair is a NaN or an infinity: for every two points that live faces hold, in
--- every state that the walk of an admitted mesh reaches. So the rule that a pair's cost is finite never refuses one. The bound is a power of two up to
--- 2^20, which is document 01's (`document-bound` of `Finite`). Assumes nothing.
+-- every state that the walk of an admitted mesh reaches. So the rule that a pair's cost is finite never refuses one. The bound is the unit's, a
+-- power of two up to 2^20 (`unit-power`, `unit-power-most` of `Finite`). Assumes nothing.
 use Prim.Native.Nat.{ℕ, _^_, _≤_, _<_}
 use native.Mathlib.Nat.{le-trans, le-of-eq, mul-le-mul-right, one-mul}
 use native.Mathlib.Omega.{arith}
 use mathlib.Core.Path.{_≡_, sym, subst, _∙_}
 use mathlib.Core.Bool.{true, not, _&&_, _||_, cond, and-true}
-use mathlib.Core.List.{List}
 use lib.Pow.{pow-add}
 use lib.ListN.{length}
 use lib.Ieee.{Float}

@@ -9,7 +9,7 @@ use mathlib.Core.Bool.{Bool, true, false, cond, and-false}
 use borrow.Author.Tests.{ltb-true, ltb-false, lt-ltb, le-ltb, ne-eqb}
 use lib.Dec.{ltb, eqb}
 use lib.ListN.{length}
-use lib.Ieee.{Float, nan, eq}
+use lib.Ieee.{nan, eq}
 use Rattle.lists.specs.Lists.{some, firstOf}
 use Rattle.lists.proofs.TestLaws.{by-test}
 use Rattle.lists.proofs.BelowLaws.{sum-same-below}

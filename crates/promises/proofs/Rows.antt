@@ -7,7 +7,7 @@ use mathlib.Core.Path.{_≡_, ap, _∙_}
 use mathlib.Core.List.{List}
 use mathlib.Core.Bool.{Bool, cond}
 use lib.ListN.{length, getD}
-use lib.Ieee.{Float, nan}
+use lib.Ieee.{nan}
 use Rattle.lists.specs.Lists.{below}
 use Rattle.lists.proofs.BelowLaws.{length-below, getD-below, length-each, getD-each}
 use Rattle.lists.proofs.FirstLaws.{first-place, first-some}

@@ -6,12 +6,12 @@ use native.Mathlib.Omega.{arith}
 use mathlib.Core.Logic.{_≢_, _⊎_, inl, inr, ⊎-elim}
 use mathlib.Core.List.{List}
 use mathlib.Core.Bool.{Bool, true, false, not, _&&_, _||_}
-use mathlib.Mathlib.Data.Bool.Basic.{or-inl, or-inr, and-intro, and-elim-left, and-elim-right}
+use mathlib.Mathlib.Data.Bool.Basic.{or-inl, or-inr}
 use borrow.Author.Tests.{ltb-true, ltb-false, leb-true, lt-ltb, le-ltb, le-leb, eqb-true, eq-eqb, ne-eqb, not-true}
 use lib.Dec.{ltb, leb, eqb}
 use lib.ListN.{length, getD}
 use Rattle.lists.specs.Lists.{some, FirstAt, firstOf}
-use Rattle.lists.proofs.TestLaws.{clash, either-of, false-of, differ}
+use Rattle.lists.proofs.TestLaws.{clash, either-of, neither-of, false-of, differ}
 use Rattle.lists.proofs.EveryLaws.{some-from}
 use Rattle.lists.proofs.FirstLaws.{first-of}
 use Rattle.promises.specs.Table.{First, None}
@@ -69,13 +69,6 @@ says-or {a = a} {b = b} p q = record {
   passes = ⊎-elim (λ x. or-inl a b (p .passes x)) (λ y. or-inr a b (q .passes y));
 }
 
--- both
-pub says-and : {P Q : Type 0} {a b : Bool} → Says P a → Says Q b → Says (P × Q) (a && b)
-says-and {a = a} {b = b} p q = record {
-  holds = λ t. (p .holds (and-elim-left a b t), q .holds (and-elim-right a b t));
-  passes = λ h. and-intro (p .passes (h .0)) (q .passes (h .1));
-}
-
 -- not both is one or the other not
 nand-or : (a b : Bool) → not (a && b) ≡ (not a || not b)
 nand-or true b = refl
@@ -83,6 +76,13 @@ nand-or false b = refl
 
 pub says-not-both : {P Q : Type 0} (a b : Bool) → Says P (not a) → Says Q (not b) → Says (P ⊎ Q) (not (a && b))
 says-not-both a b p q = says-same (says-or p q) (nand-or a b)
+
+-- neither one nor the other
+pub says-neither : {P Q : Type 0} (a b : Bool) → Says P (not a) → Says Q (not b) → Says (P × Q) (not (a || b))
+says-neither a b p q = record {
+  holds = λ t. let each = neither-of a b (not-true (a || b) t) in (p .holds (rw (each .0)), q .holds (rw (each .1)));
+  passes = λ h. rw (not-true a (p .passes (h .0)), not-true b (q .passes (h .1)));
+}
 
 -- ---- a test over a list: the first that passes, and that none does
 

@@ -21,7 +21,7 @@ use Rattle.walk.specs.Faces.{faceAt}
 use Rattle.meaning.specs.Input.{Input, pointsIn, facesIn, boundIn}
 use Rattle.meaning.specs.Answers.{uneven, large, short, empty, badRatio, badLimit, badUnit, badCoordinate, outside, doubled, badEntry}
 use Rattle.promises.specs.Table.{Uneven, Large, Short, Empty, BadRatio, BadLimit, BadUnit, BadCoordinate, Outside, Doubled, BadFace, BadEntry, RatioZero}
-use Rattle.promises.proofs.Says.{Says, says-same, says-itself, says-not, says-below, says-least, says-most, says-equal, says-differ, says-or, says-and, says-not-both}
+use Rattle.promises.proofs.Says.{Says, says-same, says-itself, says-not, says-below, says-least, says-most, says-equal, says-differ, says-or, says-not-both, says-neither}
 
 -- ---- 1 to 4
 
@@ -94,14 +94,8 @@ pub says-limit : (i : Input) → Says (BadLimit i) (badLimit (i .options .limit)
 says-limit i = says-limit-is (i .options .limit)
 
 -- 24: the unit is neither 1 nor 2
-neither-is : (a b : Bool) → not (a || b) ≡ (not a && not b)
-neither-is true b = refl
-neither-is false b = refl
-
 pub says-unit : (i : Input) → Says (BadUnit i) (badUnit (i .options .unit))
-says-unit i =
-    let u = i .options .unit in
-    says-same (says-and (says-differ u 1) (says-differ u 2)) (neither-is (eqb u 1) (eqb u 2))
+says-unit i = let u = i .options .unit in says-neither (eqb u 1) (eqb u 2) (says-differ u 1) (says-differ u 2)
 
 -- 7: a coordinate is not finite, or its size is above its unit's bound
 coordinate-is : (bound x : Float) → isNan bound ≡ false → badCoordinate bound x ≡ (not (finite x) || (lt bound x || lt x (neg bound)))

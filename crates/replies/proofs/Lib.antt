@@ -2,5 +2,6 @@
 pub mod OutcomeLaws
 pub mod ReplyLaws
 pub mod PrefixLaws
+pub mod UnitLaws
 pub mod FitLaws
 pub mod AgainLaws

@@ -12,7 +12,7 @@ use Rattle.listing.specs.declared.Printed.{Printed}
 use Rattle.listing.specs.declared.Printed.the-variants.{Bytes, NoRoom}
 use Rattle.listing.specs.Texts.{refusalText}
 use Rattle.replies.specs.declared.Wanted.{Wanted}
-use Rattle.replies.specs.declared.Wanted.the-variants.{Listing, File}
+use Rattle.replies.specs.declared.Wanted.the-variants.{File}
 use Rattle.replies.specs.declared.Reply.{Reply}
 use Rattle.replies.specs.declared.Reply.the-variants.{Mesh, Refusal}
 use Rattle.replies.specs.Replies.{Told, mesh, refusal, toldBytes}

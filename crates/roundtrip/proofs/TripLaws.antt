@@ -1,11 +1,11 @@
 -- From what the reader and the writer leave to what comes back.
 -- Assumes nothing.
-use Prim.Native.Nat.{ℕ, _*_, _/_, _≤_, _<_}
+use Prim.Native.Nat.{ℕ, _/_, _≤_, _<_}
 use native.Mathlib.Omega.{arith}
 use mathlib.Core.Path.{_≡_, refl, sym, ap, _∙_}
 use mathlib.Core.List.{List}
-use mathlib.Core.Bool.{Bool, true, false, _&&_}
-use lib.Dec.{T, leb}
+use mathlib.Core.Bool.{Bool, true, false}
+use lib.Dec.{T}
 use lib.ListN.{length, getD, take}
 use lib.Ieee.{Float, nan, binary32, fits}
 use borrow.Author.Tests.{le-leb, lt-leb}
@@ -15,12 +15,11 @@ use Rattle.scanfile.specs.declared.Head.{Head}
 use Rattle.scanfile.specs.declared.Scan.the-variants.{Good, Bad}
 use Rattle.scanfile.specs.Scans.{scanOf}
 use Rattle.scanfile.specs.Contents.{pointsOf, faceNumbersOf}
-use Rattle.scanwriter.specs.declared.Writing.{Writing}
 use Rattle.scanwriter.specs.declared.Writing.the-variants.{Bytes, Refused}
-use Rattle.scanwriter.specs.Written.{writingOf, ScanWritten}
+use Rattle.scanwriter.specs.Written.{ScanWritten}
 use Rattle.scanwriter.specs.Back.{writtenHead, ReadBack}
 use Rattle.scanwriter.proofs.BackLaws.{written-back}
-use Rattle.roundtrip.specs.Trips.{RoomToRead, MeshRead, isWritten, comesBack, BackAgain}
+use Rattle.roundtrip.specs.Trips.{RoomToRead, MeshRead, comesBack, BackAgain}
 
 -- ---- reading
 

@@ -1,5 +1,4 @@
 // A mesh written as a file and read back, by the writer's code and the reader's: what comes back is what was written.
-ghost use mathlib.Core.Path.{_≡_};
 ghost use Rattle.roundtrip.specs.Trips.{RoomToRead, MeshRead, comesBack, BackAgain};
 use scanfile::Scan;
 use scanfile::read_faces;

@@ -1,11 +1,12 @@
 -- A unit and its number: each gives the other back. Assumes nothing.
 use Prim.Native.Nat.{ℕ, _<_}
 use native.Mathlib.Omega.{arith}
-use mathlib.Core.Path.{_≡_, refl, sym}
+use mathlib.Core.Path.{_≡_, refl}
 use mathlib.Core.Logic.{_⊎_, inl, inr, ⊎-elim}
-use mathlib.Core.Bool.{Bool, true, false, _||_}
+use mathlib.Core.Bool.{true}
 use borrow.Author.Tests.{eqb-true}
 use lib.Dec.{eqb}
+use Rattle.lists.proofs.TestLaws.{either-of}
 use Rattle.units.specs.declared.Unit.{Unit}
 use Rattle.units.specs.declared.Unit.the-variants.{Millimetre, Micrometre}
 use Rattle.units.specs.Units.{unitNumber, knownUnit, unitOf}
@@ -22,11 +23,7 @@ number-known Micrometre = refl
 
 -- a number that is known is 1 or 2
 pub one-or-two : (n : ℕ) → knownUnit n ≡ true → (n ≡ 1) ⊎ (n ≡ 2)
-one-or-two n known = either (eqb n 1) (eqb n 2) (eqb-true n 1) (eqb-true n 2) known
-  where
-    either : {P Q : Type 0} (a b : Bool) → (a ≡ true → P) → (b ≡ true → Q) → (a || b) ≡ true → P ⊎ Q
-    either true b p q e = inl (p refl)
-    either false b p q e = inr (q e)
+one-or-two n known = either-of (eqb n 1) (eqb n 2) known (λ e. inl (eqb-true n 1 e)) (λ e. inr (eqb-true n 2 e))
 
 -- the number of a known number's unit
 pub number-of-unit : (n : ℕ) → knownUnit n ≡ true → unitNumber (unitOf n) ≡ n

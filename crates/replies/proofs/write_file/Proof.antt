@@ -1,5 +1,4 @@
 -- `replies::write_file` meets its contract: what fits is written whole, and never refused. Assumes nothing.
-use mathlib.Core.Path.{sym}
 use borrow.Author.Needs.{needs}
 use Rattle.replies.proofs.ReplyLaws.{file-replied, never-refused}
 use Rattle.replies.proofs.write_file.Statement.{statement}
