@@ -4,7 +4,7 @@ use mathlib.Core.Path.{_≡_, refl}
 use mathlib.Core.List.{List, [], _∷_, map}
 use mathlib.Core.Bool.{true, false}
 use lib.IntN.{pos, negsuc}
-use lib.Ieee.{Float, nan, inf, fin, isNan, lt, le, eq, neg, ofBits}
+use lib.Ieee.{Float, binary32, nan, inf, fin, isNan, lt, le, eq, neg, ofBits}
 use Rattle.lists.specs.Lists.{some, below, firstOf}
 use Rattle.placement.specs.declared.Limit.{Limit}
 use Rattle.placement.specs.declared.Limit.the-variants.{Unlimited, AtMost}
@@ -24,17 +24,17 @@ half = fin false 1 (negsuc 0)
 
 -- 1,024.0 and 1,048,576.0
 abbrev mostMillimetres : Float
-mostMillimetres = fin false 1 (pos 10)
+mostMillimetres = ofBits binary32 0x4480_0000
 
 abbrev mostMicrometres : Float
-mostMicrometres = fin false 1 (pos 20)
+mostMicrometres = ofBits binary32 0x4980_0000
 
--- the next f32 above each: 44800001 and 49800001
+-- the next f32 above each
 abbrev aboveMillimetres : Float
-aboveMillimetres = fin false 8388609 (negsuc 12)
+aboveMillimetres = ofBits binary32 0x4480_0001
 
 abbrev aboveMicrometres : Float
-aboveMicrometres = fin false 8388609 (negsuc 2)
+aboveMicrometres = ofBits binary32 0x4980_0001
 
 -- -0.0
 abbrev minusZero : Float

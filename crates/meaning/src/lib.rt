@@ -1,8 +1,8 @@
 // Document 01 as definitions: what a call is given, what it answers and what it leaves. In code it has only the values that go in and out.
 use placement::Limit;
 
-// How a mesh is thinned: in which unit it is, by its number, whatever that is; by which part, with border points held or not, and up to
-// which length of a pair.
+// How a mesh is thinned: by which part, with border points held or not, and up to which length of a pair; and in which unit it is, by a
+// number that may be no unit's, which 24 refuses.
 pub struct Options {
     pub unit: u32,
     pub ratio: f32,

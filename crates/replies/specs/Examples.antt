@@ -1,4 +1,4 @@
--- Document 01's example, its refusal and one by a margin, from the bytes of the file to the bytes of the listing, and to those of the thinned file. The
+-- Document 01's example, its refusal, one by a margin and one by its unit's bound, from the bytes of the file to the bytes of the listing, and to those of the thinned file. The
 -- proof computes them from the definitions.
 use Prim.Native.Nat.{ℕ}
 use mathlib.Core.Path.{_≡_, refl}
@@ -41,19 +41,23 @@ use Rattle.listing.specs.Examples.{squareListing, refusalListing}
 use Rattle.replies.specs.declared.Wanted.the-variants.{Listing, File}
 use Rattle.replies.specs.Replies.{mesh, refusal, replyBy, replyOf, toldBytes}
 
--- the example square as a file: (0,0,0) (2,0,0) (2,2,0) (0,2,0) (1,1,0), millimetres, ratio 0.5, with flags and a margin
-abbrev squareFile : ℕ → Option (List ℕ) → List ℕ
-squareFile flags margin =
+-- the example square as a file: (0,0,0) (2,0,0) (2,2,0) (0,2,0) (1,1,z), millimetres, ratio 0.5, with flags, a margin and z, by its bits
+abbrev squareWith : ℕ → Option (List ℕ) → ℕ → List ℕ
+squareWith flags margin z =
     fileOf
     (record {
       unit = 1;
       flags = flags;
       ratio = 0x3f00_0000;
       limit = 0;
-      points = 0 ∷ 0 ∷ 0 ∷ 0x4000_0000 ∷ 0 ∷ 0 ∷ 0x4000_0000 ∷ 0x4000_0000 ∷ 0 ∷ 0 ∷ 0x4000_0000 ∷ 0 ∷ 0x3f80_0000 ∷ 0x3f80_0000 ∷ 0 ∷ [];
+      points = 0 ∷ 0 ∷ 0 ∷ 0x4000_0000 ∷ 0 ∷ 0 ∷ 0x4000_0000 ∷ 0x4000_0000 ∷ 0 ∷ 0 ∷ 0x4000_0000 ∷ 0 ∷ 0x3f80_0000 ∷ 0x3f80_0000 ∷ z ∷ [];
       faces = 0 ∷ 1 ∷ 4 ∷ 1 ∷ 2 ∷ 4 ∷ 2 ∷ 3 ∷ 4 ∷ 3 ∷ 0 ∷ 4 ∷ [];
       margin = margin;
     })
+
+-- flat, as document 01 has it
+abbrev squareFile : ℕ → Option (List ℕ) → List ℕ
+squareFile flags margin = squareWith flags margin 0
 
 -- the thinned square as a file: four points, two faces, and zeros for flags, ratio and limit
 abbrev thinnedFile : List ℕ
@@ -69,15 +73,17 @@ thinnedFile =
       margin = none;
     })
 
--- its listing, its refusal with preserve on, and its file; with the middle held, and with a margin that descends
+-- its listing, its refusal with preserve on, and its file; with the middle held, with a margin that descends, and with the middle at the next f32 above
+-- 1,024
 pub examples-hold :
     (replyOf Listing (squareFile 0 none)
     ∷ replyOf Listing (squareFile 1 none)
     ∷ replyOf File (squareFile 0 none)
     ∷ replyOf File (squareFile 0 (present (4 ∷ [])))
     ∷ replyOf Listing (squareFile 0 (present (1 ∷ 3 ∷ 2 ∷ [])))
+    ∷ replyOf Listing (squareWith 0 none 0x4480_0001)
     ∷ []) ≡
-    (mesh squareListing ∷ refusal 10 4 ∷ mesh thinnedFile ∷ refusal 10 1 ∷ refusal 12 2 ∷ [])
+    (mesh squareListing ∷ refusal 10 4 ∷ mesh thinnedFile ∷ refusal 10 1 ∷ refusal 12 2 ∷ refusal 7 14 ∷ [])
 unfolding outcome outcomeBy partsIn foldsWalked lastMesh targetOf startOf startMesh fixedCount startKind gathered rulesOf mergedVertex fairPoints numbersOf renumbered placeIn used foldList walk after answer chosen tried opened started least order budget foldOf pairsBelow foldedMesh allowed fairFace foldedFaces borderPoint without those every some below lists.sum placeOf fallback cheaper tested stands solved eligible pairCost pairPlace pairLength pairQuadric inverse errorAt planeOf unitNormal allFinite normal norm root rootBits finiteRoot bitsRoot.largest halfway fourfold steps floatKey orderKey narrowed cut target flatMap verdictOf contentsVerdict faceVerdict marginVerdict firstOf span climb size odd units round neg ieee.sum add sub mul div lt eq le ofInt toUnsigned isNan ofFields ofBits toBits replyOf replyBy asFours recordsBytes scanOf recordFault optionsFault fourBytes numbersFrom meshText headText refusalText linesTo decimal digitCount digits
 examples-hold = refl
 

@@ -22,13 +22,9 @@ unitBound Micrometre = ofBits binary32 0x4980_0000
 abbrev pub knownUnit : ℕ → Bool
 knownUnit n = eqb n (unitNumber Millimetre) || eqb n (unitNumber Micrometre)
 
--- the unit of a number that is one's. What another number gives is asked for nowhere: 24 comes first.
+-- the unit of a number that is one's; any other is refused by 24 before its unit is looked at
 abbrev pub unitOf : ℕ → Unit
 unitOf n = cond (eqb n (unitNumber Millimetre)) Millimetre Micrometre
-
--- each unit is its number's
-pub units-hold : map (λ u. unitOf (unitNumber u)) (Millimetre ∷ Micrometre ∷ []) ≡ Millimetre ∷ Micrometre ∷ []
-units-hold = refl
 
 -- of 0 to 3, of 1 with a higher bit and of the highest number, 1 and 2 are units'
 pub known-hold : map knownUnit (0 ∷ 1 ∷ 2 ∷ 3 ∷ 65537 ∷ 4294967295 ∷ []) ≡ false ∷ true ∷ true ∷ false ∷ false ∷ false ∷ []
