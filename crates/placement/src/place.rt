@@ -103,8 +103,8 @@ fn with_error(q: Quadric, place: Point) -> Choice
 }
 
 // The cheaper of two by the order of costs, the first on equals. An error that is a NaN has a key above all others, where Rust's
-// total_cmp would go by its sign, which no operation fixes. No admitted mesh has one: coordinates are at most 2^20 in size, and so
-// are places, so every error is below 2^67 in size.
+// total_cmp would go by its sign, which no operation fixes. No admitted mesh has one: on the way every error that is compared is finite
+// (pairs-finite, crates/promises/proofs/Errors.antt).
 fn cheaper(first: Choice, second: Choice) -> Choice
     ensures { λ r. ⌜ r ≡ cheaperChoice first second ⌝ }
 {
