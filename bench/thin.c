@@ -17,6 +17,7 @@ int main(int words, char **word) {
     size_t v = (side + 1) * (side + 1), f = 2 * side * side, at = 0;
     float *points = room(3 * v * 4), *out_points = room(3 * v * 4);
     uint32_t *faces = room(3 * f * 4), *out_faces = room(3 * f * 4), answer[5];
+    uint64_t closed[3];
     for (size_t y = 0; y <= side; y++)
         for (size_t x = 0; x <= side; x++) {
             float *p = points + 3 * (y * (side + 1) + x);
@@ -34,9 +35,11 @@ int main(int words, char **word) {
     struct timespec start, end;
     clock_gettime(CLOCK_MONOTONIC, &start);
     hjoltravan_thin(points, 3 * v, faces, 3 * f, NULL, 0, HJOLTRAVAN_MILLIMETRE, ratio, false, false, 0, out_points, 3 * v,
-                    out_faces, 3 * f, u, HJOLTRAVAN_WORK_U32(v, f), p, HJOLTRAVAN_WORK_F32(v, f), q, HJOLTRAVAN_WORK_F64(v, f), answer);
+                    out_faces, 3 * f, u, HJOLTRAVAN_WORK_U32(v, f), p, HJOLTRAVAN_WORK_F32(v, f), q, HJOLTRAVAN_WORK_F64(v, f), answer,
+                    closed);
     clock_gettime(CLOCK_MONOTONIC, &end);
     double took = (end.tv_sec - start.tv_sec) * 1e3 + (end.tv_nsec - start.tv_nsec) * 1e-6;
-    printf("%zu faces, ratio %g: answer %u, %u faces left, %u folds, %.1f ms\n", f, ratio, answer[0], answer[3], answer[4], took);
+    printf("%zu faces, ratio %g: answer %u, %u faces left, %u folds, %llu pairs closed, %.1f ms\n", f, ratio, answer[0], answer[3], answer[4],
+           (unsigned long long)(closed[0] + closed[1] + closed[2]), took);
     return 0;
 }

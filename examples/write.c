@@ -16,12 +16,13 @@ int main(int count, char **names)
     static float work_f32[HJOLTRAVAN_WORK_F32(V, F)];
     static double work_f64[HJOLTRAVAN_WORK_F64(V, F)];
     uint32_t thinned[5];
+    uint64_t closed[3];
 
     /* in millimetres, take half of the faces away; no margin, preserve nothing, no length limit */
     const uint32_t unit = HJOLTRAVAN_MILLIMETRE;
     hjoltravan_thin(points, 3 * V, faces, 3 * F, NULL, 0, unit, 0.5f, false, false, 0.0f, out_points, 3 * V, out_faces, 3 * F,
                     work_u32, HJOLTRAVAN_WORK_U32(V, F), work_f32, HJOLTRAVAN_WORK_F32(V, F),
-                    work_f64, HJOLTRAVAN_WORK_F64(V, F), thinned);
+                    work_f64, HJOLTRAVAN_WORK_F64(V, F), thinned, closed);
     if (thinned[0] != 0) {
         fprintf(stderr, "thinning was refused by %u, place %u\n", thinned[0], thinned[1]);
         return 1;

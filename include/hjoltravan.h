@@ -42,9 +42,13 @@ extern "C" {
    out_faces            at least HJOLTRAVAN_OUT_FACES numbers
    work_u32, work_f32, work_f64   at least the stated lengths; what they hold at the call doesn't matter
    answer               number, place, points out, faces out, folds made
+   closed               how many pairs of points were tried and not joined, by the reason: they aren't linked (the faces that
+                        hold both are none, or not as many as their common neighbours); the join would squash a face; it would
+                        turn one over. Of several reasons the first counts: not linked; then the lowest face that would be
+                        harmed, and of that face squashed before turned over
 
-   Lengths count elements, not bytes. None of the six lent parts that are written (the two outputs, the three
-   work memories and answer) may overlap another part, the inputs included. The inputs may share memory.
+   Lengths count elements, not bytes. None of the seven lent parts that are written (the two outputs, the three
+   work memories, answer and closed) may overlap another part, the inputs included. The inputs may share memory.
 
    The numbers, in the order they are checked:
     1  the length of points or faces is no multiple of 3
@@ -67,6 +71,9 @@ extern "C" {
    At ratio 0 neither faces nor margin are looked at (8, 9 and 12). A fixed point isn't moved or joined to another, and no
    other to it: where the thinned mesh still uses it, it has the bits it came with.
 
+   On 1 to 9, 12 and 24 and at ratio 0 closed is all zero. On 10 and 11 it says why nothing could be joined: its sum is the
+   number of all pairs that there were to try.
+
    A refusal (any number but 0) changes neither output. Work memory is untouched on 1 to 9, 12 and 24, and its stated part
    is all zero after 0, 10 and 11. */
 void hjoltravan_thin(const float *points, size_t points_len, const uint32_t *faces, size_t faces_len,
@@ -74,7 +81,7 @@ void hjoltravan_thin(const float *points, size_t points_len, const uint32_t *fac
                      uint32_t unit, float ratio, bool preserve, bool limited, float limit,
                      float *out_points, size_t out_points_len, uint32_t *out_faces, size_t out_faces_len,
                      uint32_t *work_u32, size_t work_u32_len, float *work_f32, size_t work_f32_len,
-                     double *work_f64, size_t work_f64_len, uint32_t answer[5]);
+                     double *work_f64, size_t work_f64_len, uint32_t answer[5], uint64_t closed[3]);
 
 /* The same by the plain walk, which works every cost out anew at each step: the meaning of the one above, and slow. */
 void hjoltravan_thin_plain(const float *points, size_t points_len, const uint32_t *faces, size_t faces_len,
@@ -82,7 +89,7 @@ void hjoltravan_thin_plain(const float *points, size_t points_len, const uint32_
                            uint32_t unit, float ratio, bool preserve, bool limited, float limit,
                            float *out_points, size_t out_points_len, uint32_t *out_faces, size_t out_faces_len,
                            uint32_t *work_u32, size_t work_u32_len, float *work_f32, size_t work_f32_len,
-                           double *work_f64, size_t work_f64_len, uint32_t answer[5]);
+                           double *work_f64, size_t work_f64_len, uint32_t answer[5], uint64_t closed[3]);
 
 /* The same as hjoltravan_thin, with a list of the joins made.
 
@@ -96,7 +103,8 @@ void hjoltravan_thin_folds(const float *points, size_t points_len, const uint32_
                            uint32_t unit, float ratio, bool preserve, bool limited, float limit,
                            float *out_points, size_t out_points_len, uint32_t *out_faces, size_t out_faces_len,
                            uint32_t *work_u32, size_t work_u32_len, float *work_f32, size_t work_f32_len,
-                           double *work_f64, size_t work_f64_len, uint32_t *folds, size_t folds_len, uint32_t answer[5]);
+                           double *work_f64, size_t work_f64_len, uint32_t *folds, size_t folds_len, uint32_t answer[5],
+                           uint64_t closed[3]);
 
 /* The most points and faces of a scan file, and how many bytes one takes. */
 #define HJOLTRAVAN_FILE_MOST_POINTS 128

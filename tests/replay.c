@@ -1,7 +1,8 @@
 /* Runs the library on stored cases and compares its answers with the stored
-   ones: the five numbers, the bits of the outputs, the list of folds, and every
-   other cell that was lent. By the folds alone it sees that margin points stay,
-   and by the unit alone that no coordinate comes out beyond its bound.
+   ones: the five numbers, the three counts of closed pairs, the bits of the
+   outputs, the list of folds, and every other cell that was lent. By the folds
+   alone it sees that margin points stay, and by the unit alone that no
+   coordinate comes out beyond its bound.
 
        replay [MOST_FACES [times]] < cases
 
@@ -17,7 +18,7 @@
 #include <string.h>
 #include <time.h>
 
-enum { GUARD = 16, MOST_FAMILIES = 64, MAGIC = 0x33636a68 };
+enum { GUARD = 16, MOST_FAMILIES = 64, MAGIC = 0x34636a68 };
 
 static void stop(const char *why)
 {
@@ -111,10 +112,10 @@ static void fill(struct lent *lent, const uint32_t *list, size_t stored)
 
 enum { FAMILY, UNIT, RATIO, OPTIONS, LIMIT, POINTS_LEN, FACES_LEN, MARGIN_LEN,
        OUT_POINTS_LEN, OUT_FACES_LEN, WORK_U32_LEN, WORK_F32_LEN, WORK_F64_LEN,
-       NUMBER, PLACE, POINTS_OUT, FACES_OUT, FOLDS,
-       POINTS, FACES, MARGIN, OUT_POINTS, OUT_FACES, FOLD_LIST, HEAD };
+       NUMBER, PLACE, POINTS_OUT, FACES_OUT, FOLDS, CLOSED,
+       POINTS = CLOSED + 6, FACES, MARGIN, OUT_POINTS, OUT_FACES, FOLD_LIST, HEAD };
 
-enum { LISTS = HEAD - POINTS };
+enum { LISTS = HEAD - POINTS, REASONS = 3 };
 
 /* The words of a case, and where its lists begin. */
 struct one {
@@ -179,7 +180,7 @@ static float float_of(uint32_t bits)
 
 typedef __typeof__(hjoltravan_thin) thin_function;
 
-static struct lent points, faces, margin, out_points, out_faces, work_u32, work_f32, work_f64, folds, answer;
+static struct lent points, faces, margin, out_points, out_faces, work_u32, work_f32, work_f64, folds, answer, closed;
 
 #ifdef HJOLTRAVAN_FOLDS
 /* The entry that tells its folds, called like the others. */
@@ -187,10 +188,10 @@ static void thin_folds(const float *p, size_t p_len, const uint32_t *f, size_t f
                        const uint32_t *m, size_t m_len, uint32_t unit, float ratio, bool preserve, bool limited, float limit,
                        float *out_p, size_t out_p_len, uint32_t *out_f, size_t out_f_len,
                        uint32_t *w_u32, size_t w_u32_len, float *w_f32, size_t w_f32_len,
-                       double *w_f64, size_t w_f64_len, uint32_t *five)
+                       double *w_f64, size_t w_f64_len, uint32_t *five, uint64_t *three)
 {
     hjoltravan_thin_folds(p, p_len, f, f_len, m, m_len, unit, ratio, preserve, limited, limit, out_p, out_p_len, out_f, out_f_len,
-                          w_u32, w_u32_len, w_f32, w_f32_len, w_f64, w_f64_len, start(&folds), folds.length, five);
+                          w_u32, w_u32_len, w_f32, w_f32_len, w_f64, w_f64_len, start(&folds), folds.length, five, three);
 }
 #endif
 
@@ -240,6 +241,7 @@ static void call(thin_function *thin, const struct one *c)
     lend(&answer, 5, salt + 7);
     lend(&folds, folds_room(c), salt + 8);
     lend(&margin, w[MARGIN_LEN], salt + 9);
+    lend(&closed, 2 * REASONS, salt + 10);
     fill(&points, list_of(c, POINTS), w[POINTS]);
     fill(&faces, list_of(c, FACES), w[FACES]);
     fill(&margin, list_of(c, MARGIN), w[MARGIN]);
@@ -250,13 +252,23 @@ static void call(thin_function *thin, const struct one *c)
          (float *)start(&out_points), out_points.length,
          start(&out_faces), out_faces.length,
          start(&work_u32), work_u32.length, (float *)start(&work_f32), work_f32.length,
-         (double *)start(&work_f64), work_f64.length / 2, start(&answer));
+         (double *)start(&work_f64), work_f64.length / 2, start(&answer), (uint64_t *)start(&closed));
     took = now() - began;
 }
 
 static const char *const answer_part[5] = {
     "answer number", "place", "points out", "faces out", "folds"
 };
+
+static const char *const closed_part[REASONS] = {
+    "pairs not linked", "pairs squashed", "pairs turned over"
+};
+
+/* A count of closed pairs from two cells, the low one first. */
+static unsigned long long count_of(const uint32_t *cells, int reason)
+{
+    return (unsigned long long)cells[2 * reason + 1] << 32 | cells[2 * reason];
+}
 
 /* Whether the first cells are zero and the others as they were lent. */
 static bool cleared(const struct lent *lent, size_t stated)
@@ -352,6 +364,9 @@ static const char *difference(const struct one *c, bool tells_folds)
     for (int i = 0; i < 5; i++)
         if (start(&answer)[i] != w[NUMBER + i])
             return answer_part[i];
+    for (int i = 0; i < REASONS; i++)
+        if (count_of(start(&closed), i) != count_of(w + CLOSED, i))
+            return closed_part[i];
     if (!holds(&folds, list_of(c, FOLD_LIST), w[FOLD_LIST], told))
         return "list of folds";
     if (!untouched_from(&folds, told))
@@ -378,6 +393,8 @@ static const char *difference(const struct one *c, bool tells_folds)
         return "input margin";
     if (!untouched_from(&answer, 5))
         return "cells beside the answer";
+    if (!untouched_from(&closed, 2 * REASONS))
+        return "cells beside the closed pairs";
     if (done && !within_bound(c))
         return "coordinates beyond the bound";
     /* At ratio zero neither faces nor margin are looked at. */
@@ -400,8 +417,15 @@ static void print_list(const char *name, const uint32_t *list, size_t stored, si
     printf(length > 300 ? "...\n" : length % per_line ? "\n" : "");
 }
 
+static void print_answer(const char *whose, const uint32_t five[5], const uint32_t *counts)
+{
+    printf("%s answer %u place %u points %u faces %u folds %u closed %llu %llu %llu\n", whose,
+           five[0], five[1], five[2], five[3], five[4],
+           count_of(counts, 0), count_of(counts, 1), count_of(counts, 2));
+}
+
 static void print_case(const struct one *c, const char *what, const char *entry,
-                       const uint32_t got[5])
+                       const uint32_t got[5], const uint32_t *got_closed)
 {
     const uint32_t *w = c->word;
     printf("case %lu, by %s: %s\n", c->number, entry, what);
@@ -409,10 +433,8 @@ static void print_case(const struct one *c, const char *what, const char *entry,
            w[UNIT], w[RATIO], w[OPTIONS] & 1, w[OPTIONS] >> 1 & 1, w[LIMIT]);
     printf("lent %u %u %u %u %u\n", w[OUT_POINTS_LEN], w[OUT_FACES_LEN],
            w[WORK_U32_LEN], w[WORK_F32_LEN], w[WORK_F64_LEN]);
-    printf("expected answer %u place %u points %u faces %u folds %u\n",
-           w[NUMBER], w[PLACE], w[POINTS_OUT], w[FACES_OUT], w[FOLDS]);
-    printf("got      answer %u place %u points %u faces %u folds %u\n",
-           got[0], got[1], got[2], got[3], got[4]);
+    print_answer("expected", w + NUMBER, w + CLOSED);
+    print_answer("got     ", got, got_closed);
     print_list("points", list_of(c, POINTS), w[POINTS], w[POINTS_LEN], 3, "%08x ");
     print_list("faces", list_of(c, FACES), w[FACES], w[FACES_LEN], 3, "%u ");
     print_list("margin", list_of(c, MARGIN), w[MARGIN], w[MARGIN_LEN], 12, "%u ");
@@ -426,7 +448,7 @@ static void print_case(const struct one *c, const char *what, const char *entry,
 static struct {
     struct one one;
     const char *what, *entry;
-    uint32_t got[5];
+    uint32_t got[5], got_closed[2 * REASONS];
 } smallest;
 
 static size_t size_of(const struct one *c)
@@ -447,6 +469,7 @@ static void keep_if_smallest(const struct one *c, const char *what, const char *
     smallest.what = what;
     smallest.entry = entry;
     memcpy(smallest.got, start(&answer), sizeof smallest.got);
+    memcpy(smallest.got_closed, start(&closed), sizeof smallest.got_closed);
 }
 
 /* The entries, each with the least time that a call took. */
@@ -503,6 +526,7 @@ int main(int count, char **argument)
 
     unsigned long cases[MOST_FAMILIES] = { 0 }, wrong[MOST_FAMILIES] = { 0 };
     unsigned long all = 0, all_wrong = 0, by_plain = 0, told = 0, held = 0, millimetres = 0, micrometres = 0;
+    unsigned long long shut[REASONS] = { 0 };
     for (size_t space = 0; read_case(&c, &space);) {
         uint32_t family = c.word[FAMILY];
         if (family >= head[1])
@@ -516,6 +540,8 @@ int main(int count, char **argument)
             held += c.word[MARGIN_LEN];
         millimetres += c.word[UNIT] == HJOLTRAVAN_MILLIMETRE;
         micrometres += c.word[UNIT] == HJOLTRAVAN_MICROMETRE;
+        for (int i = 0; i < REASONS; i++)
+            shut[i] += count_of(c.word + CLOSED, i);
         if (refused(&c) || c.word[FACES_LEN] / 3 <= plain_most) {
             wrong_here |= differs(&plain, &c);
             by_plain++;
@@ -532,6 +558,7 @@ int main(int count, char **argument)
     printf("%lu of the cases were run by the plain walk too; %lu folds were told one by one; %lu margin points stayed beside folds\n",
            by_plain, told, held);
     printf("%lu of the cases are in millimetres, %lu in micrometres\n", millimetres, micrometres);
+    printf("pairs were closed: %llu not linked, %llu squashed, %llu turned over\n", shut[0], shut[1], shut[2]);
     if (count > 2) {
         print_time(&fast);
 #ifdef HJOLTRAVAN_FOLDS
@@ -541,7 +568,7 @@ int main(int count, char **argument)
     }
     if (smallest.what) {
         printf("The smallest that differs: family %s, ", name[smallest.one.word[FAMILY]]);
-        print_case(&smallest.one, smallest.what, smallest.entry, smallest.got);
+        print_case(&smallest.one, smallest.what, smallest.entry, smallest.got, smallest.got_closed);
     }
     return all_wrong != 0;
 }

@@ -1,5 +1,5 @@
-/* The small set of document 01 that is run, margins on its square and the bounds of the units (document 02, wishes 2 and 3),
-   through the C interface: each call's answer, and the output where it matters. */
+/* The small set of document 01 that is run, margins on its square, the bounds of the units and the reasons of closed pairs
+   (document 02, wishes 2 to 4), through the C interface: each call's answer, and the output where it matters. */
 #include "../include/hjoltravan.h"
 #include <math.h>
 #include <stdio.h>
@@ -12,7 +12,15 @@ static uint32_t out_faces[3 * MOST_FACES];
 static uint32_t u[16 * MOST_POINTS + 32 * MOST_FACES];
 static float p[4 * MOST_POINTS + 12 * MOST_FACES];
 static double q[16 * MOST_POINTS + 6 * MOST_FACES];
+static uint64_t closed[3];
 static int failed;
+
+enum { UNTOUCHED = 77, FOLD_ROOM = 8 };
+
+/* Whether the pairs that the last call closed are so many, by the reason. */
+static bool closed_are(uint64_t not_linked, uint64_t squashed, uint64_t turned_over) {
+    return closed[0] == not_linked && closed[1] == squashed && closed[2] == turned_over;
+}
 
 /* Thins v points and f faces both ways, and says whether the answer is the expected one and the two agree in all that they write. */
 static void expect_in(const char *what, const float *points, size_t v, const uint32_t *faces, size_t f, const uint32_t *margin, size_t held,
@@ -20,19 +28,23 @@ static void expect_in(const char *what, const float *points, size_t v, const uin
                       uint32_t most_faces, uint32_t folds) {
     static float plain_points[3 * MOST_POINTS];
     static uint32_t plain_faces[3 * MOST_FACES], answer[5], plain_answer[5];
+    static uint64_t plain_closed[3];
+    for (size_t i = 0; i < 3; i++) closed[i] = plain_closed[i] = UNTOUCHED;
     memcpy(plain_points, out_points, sizeof out_points);
     memcpy(plain_faces, out_faces, sizeof out_faces);
     hjoltravan_thin(points, 3 * v, faces, 3 * f, margin, held, unit, ratio, preserve, limited, limit, out_points, 3 * v, out_faces, 3 * f, u,
-                    HJOLTRAVAN_WORK_U32(v, f), p, HJOLTRAVAN_WORK_F32(v, f), q, HJOLTRAVAN_WORK_F64(v, f), answer);
+                    HJOLTRAVAN_WORK_U32(v, f), p, HJOLTRAVAN_WORK_F32(v, f), q, HJOLTRAVAN_WORK_F64(v, f), answer, closed);
     bool right = answer[0] == number && answer[1] == place && answer[3] <= most_faces && answer[4] == folds;
-    if (!right) {
+    /* without a walk nothing is closed */
+    bool walked = (number == 0 && ratio != 0) || number == 10 || number == 11;
+    if (!right || !(walked || closed_are(0, 0, 0))) {
         printf("small set: %s: answer %u place %u points %u faces %u folds %u\n", what, answer[0], answer[1], answer[2], answer[3], answer[4]);
         failed++;
     }
     hjoltravan_thin_plain(points, 3 * v, faces, 3 * f, margin, held, unit, ratio, preserve, limited, limit, plain_points, 3 * v,
                           plain_faces, 3 * f, u, HJOLTRAVAN_WORK_U32(v, f), p, HJOLTRAVAN_WORK_F32(v, f), q, HJOLTRAVAN_WORK_F64(v, f),
-                          plain_answer);
-    if (memcmp(answer, plain_answer, sizeof answer) || memcmp(out_points, plain_points, sizeof out_points) ||
+                          plain_answer, plain_closed);
+    if (memcmp(answer, plain_answer, sizeof answer) || memcmp(closed, plain_closed, sizeof closed) || memcmp(out_points, plain_points, sizeof out_points) ||
         memcmp(out_faces, plain_faces, sizeof out_faces)) {
         printf("small set: %s: the plain walk differs\n", what);
         failed++;
@@ -53,7 +65,13 @@ static void expect(const char *what, const float *points, size_t v, const uint32
     expect_held(what, points, v, faces, f, NULL, 0, ratio, preserve, limited, limit, number, place, most_faces, folds);
 }
 
-enum { UNTOUCHED = 77, FOLD_ROOM = 8 };
+/* Says whether the call before this closed so many pairs, by the reason. */
+static void expect_closed(const char *what, uint64_t not_linked, uint64_t squashed, uint64_t turned_over) {
+    if (closed_are(not_linked, squashed, turned_over)) return;
+    printf("small set: %s: closed %llu %llu %llu\n", what, (unsigned long long)closed[0], (unsigned long long)closed[1],
+           (unsigned long long)closed[2]);
+    failed++;
+}
 
 /* Thins v points and f faces with room for that many numbers of folds, and says whether the list is the expected one. */
 static void expect_folds(const char *what, const float *points, size_t v, const uint32_t *faces, size_t f, float ratio, bool preserve,
@@ -62,7 +80,7 @@ static void expect_folds(const char *what, const float *points, size_t v, const 
     for (size_t i = 0; i < FOLD_ROOM; i++) folds[i] = UNTOUCHED;
     hjoltravan_thin_folds(points, 3 * v, faces, 3 * f, NULL, 0, HJOLTRAVAN_MILLIMETRE, ratio, preserve, false, 0, out_points, 3 * v,
                           out_faces, 3 * f, u, HJOLTRAVAN_WORK_U32(v, f), p, HJOLTRAVAN_WORK_F32(v, f), q, HJOLTRAVAN_WORK_F64(v, f),
-                          folds, room, answer);
+                          folds, room, answer, closed);
     if (memcmp(folds, expected, sizeof folds)) {
         printf("small set: %s: answer %u folds %u, listed %u %u %u ..\n", what, answer[0], answer[4], folds[0], folds[1], folds[2]);
         failed++;
@@ -126,21 +144,66 @@ static void expect_ridge(const char *what, uint32_t unit, float x, float y) {
     }
 }
 
+/* The pair (0, 1) alone is eligible. It has the face (0, 1, 2) and leaves over far points at 1, which goes to 0: those over the points 3 and 4 are
+   squashed, those over 5 and 6 turned over, those over 7 and 8 neither. The face (0, 3, 5) makes 3 and 5 neighbours of both, and nothing links them. */
+static void expect_reasons(void) {
+    static const float far[] = {0, 0, 0, 1, 0, 0, 0, 9, 0, 0, 4, 0, 0, 8, 0, 0.5f, 5, 0, 0.5f, -5, 0, 3, 5, 0, 3, -5, 0};
+    static const struct {
+        const char *what;
+        uint32_t faces[4 * 3], count;
+        uint64_t closed[3];
+    } cases[] = {
+        {"squashed", {0, 1, 2, 1, 3, 4}, 2, {0, 1, 0}},
+        {"turned over", {0, 1, 2, 1, 5, 6}, 2, {0, 0, 1}},
+        {"squashed, then turned over", {0, 1, 2, 1, 3, 4, 1, 5, 6}, 3, {0, 1, 0}},
+        {"turned over, then squashed", {0, 1, 2, 1, 5, 6, 1, 3, 4}, 3, {0, 0, 1}},
+        {"neither, then turned over, then squashed", {1, 7, 8, 1, 5, 6, 0, 1, 2, 1, 3, 4}, 4, {0, 0, 1}},
+        {"not linked, and squashed", {1, 3, 4, 0, 1, 2, 0, 3, 5}, 3, {1, 0, 0}},
+        {"not linked, and turned over", {0, 3, 5, 1, 5, 6, 0, 1, 2}, 3, {1, 0, 0}},
+        {"not linked by one face over the other", {0, 1, 2, 0, 1, 2, 1, 5, 6}, 3, {1, 0, 0}},
+        {"opened twice, and squashed", {0, 1, 2, 0, 1, 7, 1, 3, 4}, 3, {0, 1, 0}},
+        {"opened three times, and turned over", {0, 1, 2, 0, 1, 7, 0, 1, 8, 1, 5, 6}, 4, {0, 0, 1}},
+        {"opened by no face", {1, 0, 2, 1, 5, 6}, 2, {0, 0, 0}},
+    };
+    for (size_t i = 0; i < sizeof cases / sizeof *cases; i++) {
+        const uint64_t *is = cases[i].closed;
+        /* nothing is folded: 11; and 10 where a point is held */
+        static const uint32_t held[] = {2};
+        expect_held(cases[i].what, far, 9, cases[i].faces, cases[i].count, NULL, 0, 1.0f, false, true, 1.0f, 11, 0, 0, 0);
+        expect_closed(cases[i].what, is[0], is[1], is[2]);
+        expect_held(cases[i].what, far, 9, cases[i].faces, cases[i].count, held, 1, 1.0f, false, true, 1.0f, 10, 1, 0, 0);
+        expect_closed(cases[i].what, is[0], is[1], is[2]);
+        /* no fold is due, so no pair is tried */
+        expect_held(cases[i].what, far, 9, cases[i].faces, cases[i].count, NULL, 0, 0x1p-25f, false, true, 1.0f, 0, 0, cases[i].count, 0);
+        expect_closed(cases[i].what, 0, 0, 0);
+    }
+    static const uint32_t fair[] = {0, 1, 2, 1, 7, 8};
+    expect("nothing in the way", far, 9, fair, 2, 1.0f, false, true, 1.0f, 0, 0, 1, 1);
+    expect_closed("nothing in the way", 0, 0, 0);
+}
+
 int main(void) {
+    /* pair (0, 1) squashes a face; at the two refusals no pair is eligible */
     expect("the square", square, 5, fan, 4, 0.5f, false, false, 0, 0, 0, 2, 1);
+    expect_closed("the square", 0, 1, 0);
     expect("preserve on", square, 5, fan, 4, 0.5f, true, false, 0, 10, 4, 0, 0);
+    expect_closed("preserve on", 0, 0, 0);
     expect("limit 1.0", square, 5, fan, 4, 0.5f, false, true, 1.0f, 11, 0, 0, 0);
+    expect_closed("limit 1.0", 0, 0, 0);
     expect("limit 2.0", square, 5, fan, 4, 0.5f, false, true, 2.0f, 0, 0, 2, 1);
+    expect_closed("limit 2.0", 0, 1, 0);
 
     /* the square's middle point held: every other pair squashes a face. Its corner 0 held: 4 is joined to 1 */
     static const uint32_t middle[] = {4}, all[] = {0, 1, 2, 3, 4}, first[] = {0}, twice[] = {0, 0}, down[] = {1, 0}, too_high[] = {5},
                           high_last[] = {0, 4, 5}, highest[] = {UINT32_MAX};
     expect_held("middle held", square, 5, fan, 4, middle, 1, 0.5f, false, false, 0, 10, 1, 0, 0);
+    expect_closed("middle held", 0, 3, 0);
     expect_held("middle held, preserve on", square, 5, fan, 4, middle, 1, 0.5f, true, false, 0, 10, 5, 0, 0);
     expect_held("all held", square, 5, fan, 4, all, 5, 0.5f, false, false, 0, 10, 5, 0, 0);
     expect_held("all held, preserve on", square, 5, fan, 4, all, 5, 0.5f, true, false, 0, 10, 5, 0, 0);
     expect_held("all held, no fold due", square, 5, fan, 4, all, 5, 0x1p-25f, false, false, 0, 0, 0, 4, 0);
     expect_held("a corner held", square, 5, fan, 4, first, 1, 0.5f, false, false, 0, 0, 0, 2, 1);
+    expect_closed("a corner held", 0, 1, 0);
     static const float kept_corner[] = {2, 2, 0, 0, 2, 0, 2, 0, 0, 0, 0, 0};
     if (memcmp(out_points, kept_corner, sizeof kept_corner)) {
         printf("small set: a corner held: other points\n");
@@ -191,6 +254,7 @@ int main(void) {
     expect_units();
     expect_ridge("the ridge in micrometres", HJOLTRAVAN_MICROMETRE, 1026, -0.0f);
     expect_ridge("the ridge in millimetres", HJOLTRAVAN_MILLIMETRE, 1024, 0);
+    expect_reasons();
 
     printf("small set: %d failed\n", failed);
     return failed != 0;

@@ -1,7 +1,7 @@
 //! The answer to a case: the rules before the walk, then the Rust itself.
 
 use crate::case::{Answer, Case};
-use crate::fold_report::{self, Fold};
+use crate::fold_report::{self, Report};
 use crate::quadric_error::QuadricErrorSimplifier;
 use crate::{rules, MeshSimplifier};
 use threecrate_core::{Error, Point3f, TriangleMesh};
@@ -10,21 +10,22 @@ pub fn answer(case: &Case) -> Answer {
     rules::answer_before_walk(case).unwrap_or_else(|| walked(case).0)
 }
 
-/// The Rust's answer on an admitted mesh, and its folds with their places.
-pub fn walked(case: &Case) -> (Answer, Vec<Fold>) {
+/// The Rust's answer on an admitted mesh, and the report of its walk.
+pub fn walked(case: &Case) -> (Answer, Report) {
     let result = simplifier(case).simplify(&mesh(case), f32::from_bits(case.ratio));
-    let folds = fold_report::take();
-    let answer = match result {
+    let report = fold_report::take();
+    let mut answer = match result {
         Ok(mesh) => Answer {
             points: mesh.vertices.iter().flat_map(|p| [p.x, p.y, p.z]).map(f32::to_bits).collect(),
             faces: mesh.faces.concat().iter().map(|&point| point as u32).collect(),
-            folds: folds.iter().map(|f| [f.keep as u32, f.remove as u32]).collect(),
+            folds: report.folds.iter().map(|f| [f.keep as u32, f.remove as u32]).collect(),
             ..Answer::default()
         },
         Err(Error::Algorithm(message)) => no_fold(&message),
         Err(error) => panic!("the Rust refused an admitted mesh: {error:?}"),
     };
-    (answer, folds)
+    answer.closed = report.counts();
+    (answer, report)
 }
 
 /// The Rust with the settings of a case.

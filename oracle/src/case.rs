@@ -3,12 +3,13 @@
 //! The file is u32 words, little-endian. It begins with the magic word, the
 //! number of families and their names, sixteen bytes each, padded with zeros.
 //! Then come the cases, each in the order of `Case::write`. A list is stored up
-//! to where it begins to repeat itself; the reader repeats it to its length.
+//! to where it begins to repeat itself; the reader repeats it to its length. The three
+//! counts of closed pairs are two words each, the low word first.
 
 use std::io::{self, Write};
 
-/// "hjc3" as bytes in the file.
-const MAGIC: u32 = u32::from_le_bytes(*b"hjc3");
+/// "hjc4" as bytes in the file.
+const MAGIC: u32 = u32::from_le_bytes(*b"hjc4");
 
 /// What a call is given. Floats are kept as bits, so that any NaN can be stored.
 #[derive(Clone, Debug)]
@@ -67,6 +68,9 @@ pub struct Answer {
     pub faces: Vec<u32>,
     /// Keep and remove of each fold, in order.
     pub folds: Vec<[u32; 2]>,
+    /// How many pairs were closed because they are not allowed: not linked, squashed,
+    /// turned over. Zeros unless there was a walk.
+    pub closed: [u64; 3],
 }
 
 pub fn write_head(out: &mut impl Write, families: &[&str]) -> io::Result<()> {
@@ -106,6 +110,7 @@ impl Case {
             answer.faces.len() as u32 / 3,
             answer.folds.len() as u32,
         ];
+        words.extend(answer.closed.iter().flat_map(|&count| [count as u32, (count >> 32) as u32]));
         words.extend(lists.iter().map(|list| list.len() as u32));
         words.extend(lists.concat());
         write_words(out, &[words.len() as u32])?;

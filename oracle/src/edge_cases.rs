@@ -5,7 +5,7 @@ use crate::case::Case;
 use crate::dressing::{dressed, length, plain, random_face};
 use crate::random::Random;
 use crate::shapes::{self, along, Mesh, Point};
-use crate::steps::{search, Knob};
+use crate::steps::{course, search, Knob};
 use crate::units::{self, UNITS};
 
 pub fn ratio_step(random: &mut Random, most: usize) -> Vec<Case> {
@@ -13,7 +13,7 @@ pub fn ratio_step(random: &mut Random, most: usize) -> Vec<Case> {
     let mut case = dressed(random, mesh);
     case.limited = false;
     case.ratio = (random.part() as f32).to_bits();
-    search(random, case, 4, |random, _| {
+    search(random, case, 4, course, |random, _| {
         (Knob::Ratio, random.choose(&[1.0f32, 0.0, 1e-9, 0.5, 0.1]).to_bits())
     })
 }
@@ -23,7 +23,7 @@ pub fn limit_step(random: &mut Random, most: usize) -> Vec<Case> {
     let mut case = dressed(random, mesh);
     case.limited = true;
     case.limit = f32::INFINITY.to_bits();
-    search(random, case, 4, |random, case| {
+    search(random, case, 4, course, |random, case| {
         let [a, b, _] = random_face(random, case);
         let part = random.choose(&[0.5, 0.999, 1.001, 1.5]);
         (Knob::Limit, (length(case, a, b) * part).to_bits())
@@ -37,7 +37,7 @@ pub fn point_step(random: &mut Random, most: usize) -> Vec<Case> {
         _ => shapes::surface(random, most.min(32)),
     };
     let case = dressed(random, mesh);
-    search(random, case, 6, |random, case| {
+    search(random, case, 6, course, |random, case| {
         let place = random.below(case.points.len());
         let size = random.choose(&[0.01, 0.5, 2.0]);
         let other = f32::from_bits(case.points[place]) as f64 + random.around(size);
@@ -65,7 +65,7 @@ pub fn squash_step(random: &mut Random) -> Vec<Case> {
     units::set(random, &mut case);
     one_fold(&mut case);
     let knob = Knob::Coordinate((1 + axis) % 3);
-    search(random, case, 1, |_, _| (knob, 0))
+    search(random, case, 1, course, |_, _| (knob, 0))
 }
 
 /// No pair longer than that of points 0 and 1 is eligible, and one fold is due.
@@ -118,7 +118,7 @@ fn add_leaf(mesh: &mut Mesh, at: usize, tips: [Point; 2]) {
 
 /// Moves some coordinate past the first three points.
 fn leaf_step(random: &mut Random, case: Case, size: f64) -> Vec<Case> {
-    search(random, case, 12, |random, case| {
+    search(random, case, 12, course, |random, case| {
         let place = random.between(9, case.points.len() - 1);
         let other = f32::from_bits(case.points[place]) as f64 + random.around(size);
         (Knob::Coordinate(place), units::admitted(case.unit, other as f32).to_bits())
@@ -160,7 +160,7 @@ pub fn turn_step(random: &mut Random) -> Vec<Case> {
     one_fold(&mut case);
     case.limited = true;
     case.limit = length(&case, 1, 2).to_bits();
-    search(random, case, 1, |_, _| (Knob::Coordinate(1), 0))
+    search(random, case, 1, course, |_, _| (Knob::Coordinate(1), 0))
 }
 
 /// Three planes that meet on the axis of x: those of y and z at point 0, and one
@@ -206,7 +206,7 @@ pub fn place_step(random: &mut Random) -> Vec<Case> {
 /// Moves the first coordinate of the leaning leaf.
 fn lean_step(random: &mut Random, case: Case, size: f64, axis: usize) -> Vec<Case> {
     let knob = Knob::Coordinate(9 + axis);
-    search(random, case, 8, |random, case| {
+    search(random, case, 8, course, |random, case| {
         let now = f32::from_bits(case.points[9 + axis]) as f64;
         let other = (now + random.around(20.0 * size)) as f32;
         (knob, units::admitted(case.unit, other).to_bits())

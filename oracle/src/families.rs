@@ -9,6 +9,7 @@ use crate::edge_cases::{
 use crate::margins;
 use crate::odd_places::{choice, far, hats, no_area};
 use crate::random::Random;
+use crate::reasons;
 use crate::shapes::{self, Mesh};
 use crate::units;
 
@@ -24,7 +25,7 @@ const fn family(name: &'static str, weight: usize, make: Maker) -> Family {
     Family { name, weight, make }
 }
 
-const FAMILIES: [Family; 34] = [
+const FAMILIES: [Family; 39] = [
     family("refused", 30, |r, _| vec![refused(r)]),
     family("bad faces", 6, |r, _| vec![bad_faces(r)]),
     family("sizes", 1, |r, _| vec![at_size_limit(r)]),
@@ -59,6 +60,11 @@ const FAMILIES: [Family; 34] = [
     family("at bound", 24, |r, most| vec![units::at_bound(r, most)]),
     family("both units", 12, units::both),
     family("bad unit", 15, |r, _| vec![units::bad(r)]),
+    family("mixed harm", 24, |r, _| vec![reasons::mixed_harm(r)]),
+    family("last harm", 24, |r, _| vec![reasons::last_harm(r)]),
+    family("not linked", 18, |r, _| vec![reasons::not_linked(r)]),
+    family("doubled pair", 24, |r, _| vec![reasons::doubled_pair(r)]),
+    family("reason step", 12, |r, _| reasons::reason_step(r)),
 ];
 
 pub fn names() -> Vec<&'static str> {

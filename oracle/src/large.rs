@@ -3,7 +3,7 @@
 use crate::answer;
 use crate::case::{self, Case};
 use crate::dressing::{plain, renumber};
-use crate::fold_report;
+use crate::fold_report::{self, without_reasons};
 use crate::random::Random;
 use crate::shapes::{self, circle, Mesh};
 use crate::MeshSimplifier;
@@ -62,7 +62,7 @@ fn least_time(case: &Case) -> Duration {
     let simplifier = answer::simplifier(case);
     let once = |_| {
         let start = Instant::now();
-        let thinned = simplifier.simplify(&mesh, f32::from_bits(case.ratio));
+        let thinned = without_reasons(|| simplifier.simplify(&mesh, f32::from_bits(case.ratio)));
         let took = start.elapsed();
         drop(thinned);
         fold_report::take();

@@ -26,6 +26,7 @@ mod margins;
 mod odd_places;
 mod patterns;
 mod random;
+mod reasons;
 mod rules;
 mod shapes;
 mod single_cases;

@@ -36,6 +36,12 @@ pub fn hold_points(random: &mut Random, case: &mut Case) {
     hold(case, some_of(random, &from, 4));
 }
 
+/// One point or two, whether the walk folds them or not.
+pub fn hold_few(random: &mut Random, case: &mut Case) {
+    let all: Vec<u32> = (0..count(case)).collect();
+    hold(case, some_of(random, &all, 2));
+}
+
 /// A few points or a curve, for a mesh of any kind.
 pub fn hold_any(random: &mut Random, case: &mut Case) {
     if random.once_in(2) {

@@ -59,10 +59,10 @@ pub fn course(case: &Case) -> Course {
     if let Some(answer) = rules::answer_before_walk(case) {
         return Course { answer: (answer.number, answer.place), folds: Vec::new() };
     }
-    let (answer, folds) = answer::walked(case);
+    let (answer, report) = answer::walked(case);
     let mut points: Vec<[f32; 3]> =
         case.points.chunks(3).map(|p| [p[0], p[1], p[2]].map(f32::from_bits)).collect();
-    let folds = folds.iter().map(|fold| {
+    let folds = report.folds.iter().map(|fold| {
         let (keep, remove) = (points[fold.keep], points[fold.remove]);
         let middle = [0, 1, 2].map(|i| (keep[i] + remove[i]) * 0.5);
         let place = [fold.place.x, fold.place.y, fold.place.z];
@@ -74,21 +74,26 @@ pub fn course(case: &Case) -> Course {
     Course { answer: (answer.number, answer.place), folds: folds.collect() }
 }
 
-/// The two neighbours between `case` and the same with another number, if the
-/// course of the walk isn't the same at both ends.
-pub fn neighbours(case: &Case, knob: Knob, other: u32) -> Option<[Case; 2]> {
+/// The two neighbours between `case` and the same with another number, if what is told of
+/// the walk isn't the same at both ends.
+fn neighbours<T: PartialEq>(
+    case: &Case,
+    knob: Knob,
+    other: u32,
+    told: fn(&Case) -> T,
+) -> Option<[Case; 2]> {
     let mut low = step_of(*knob.of(&mut case.clone()));
     let mut high = step_of(other);
     if low > high {
         (low, high) = (high, low);
     }
-    let first = course(&knob.set(case, low));
-    if first == course(&knob.set(case, high)) {
+    let first = told(&knob.set(case, low));
+    if first == told(&knob.set(case, high)) {
         return None;
     }
     while low as i64 + 1 < high as i64 {
         let middle = ((low as i64 + high as i64) >> 1) as i32;
-        if first == course(&knob.set(case, middle)) {
+        if first == told(&knob.set(case, middle)) {
             low = middle;
         } else {
             high = middle;
@@ -97,16 +102,18 @@ pub fn neighbours(case: &Case, knob: Knob, other: u32) -> Option<[Case; 2]> {
     Some([knob.set(case, low), knob.set(case, high)])
 }
 
-/// Tries some knobs with some other numbers; the case itself if nothing changes.
-pub fn search(
+/// Tries some knobs with some other numbers; the case itself if nothing changes in what is
+/// told of the walk, which is mostly its course.
+pub fn search<T: PartialEq>(
     random: &mut Random,
     case: Case,
     tries: usize,
+    told: fn(&Case) -> T,
     mut pick: impl FnMut(&mut Random, &Case) -> (Knob, u32),
 ) -> Vec<Case> {
     for _ in 0..tries {
         let (knob, other) = pick(random, &case);
-        if let Some(pair) = neighbours(&case, knob, other) {
+        if let Some(pair) = neighbours(&case, knob, other, told) {
             return pair.to_vec();
         }
     }

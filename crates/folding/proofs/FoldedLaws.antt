@@ -13,13 +13,13 @@ use borrow.Author.Tests.{eqb-true, ne-eqb, lt-ltb, ltb-true, le-ltb}
 use Rattle.walk.specs.declared.Face.{Face}
 use Rattle.lists.specs.Lists.{count, those, every, some, below, stretch}
 use Rattle.walk.specs.Faces.{holds, both, renamed, renamedFace, proper, faceAt}
-use Rattle.walk.specs.Fold.{foldedFaces}
+use Rattle.walk.specs.Fold.{foldedFaces, leftNumbers}
 use Rattle.lists.proofs.TestLaws.{by-test, flag-le}
-use Rattle.lists.proofs.EveryLaws.{every-head, every-tail, every-implies, some-count}
+use Rattle.lists.proofs.EveryLaws.{every-head, every-tail, every-implies, some-count, those-both, beside-map}
 use Rattle.lists.proofs.BelowLaws.{all-below, sum-pick, sum-same-below}
 use Rattle.lists.proofs.SumLaws.{sum-same}
 use Rattle.walk.proofs.FaceLaws.{renamed-proper}
-use Rattle.memory.specs.Memory.{corner, first, lives, liveFaces, Room, liveAt}
+use Rattle.memory.specs.Memory.{corner, first, lives, liveFaces, liveNumbers, Room, liveAt}
 use Rattle.lists.specs.Frames.{But}
 use Rattle.mesh.specs.Contracts.Chains.{Chains, Tidy}
 use Rattle.mesh.specs.Contracts.Around.{Gathered}
@@ -261,7 +261,7 @@ module _ {v f : ℕ} {w : List ℕ} {keep remove : ℕ} {w₃ w₄ w₅ : List �
 
   pub folded : {near-at n gone : ℕ} → Gathered v f w keep near-at n →
       gone ≡ count (λ k. holds remove (faceAt w k)) (stretch w near-at n) → FacesFolded v f w keep remove w₅ gone
-  unfolding liveFaces foldedFaces
+  unfolding liveFaces foldedFaces leftNumbers
   folded {near-at} {n} {gone} g counting =
       let but : But 0 (kindsFrom v f) w w₅ = but-then (d .but) (but-then (near .but) (far .but)) in
       record {
@@ -282,6 +282,9 @@ module _ {v f : ℕ} {w : List ℕ} {keep remove : ℕ} {w₃ w₄ w₅ : List �
         same-faces =
             kept-changed (λ p. not (both keep remove p)) (renamedFace keep remove) (lives f w) (lives f w₅) (λ k. ltb k f) (faceAt w) (faceAt w₅)
             (λ k l. left k (ltb-true k f l)) (λ k l. renamed-face k (ltb-true k f l)) (below f) (all-below f);
+        same-numbers =
+            those-both (λ k. not (both keep remove (faceAt w k))) (lives f w) (lives f w₅) (λ k. ltb k f) (λ k l. left k (ltb-true k f l)) (below f) (all-below f)
+            ∙ sym (beside-map (λ p. not (both keep remove p)) (faceAt w) (liveNumbers f w));
         counted =
             counting
             ∙ gathered-sums g (λ p. cond (holds remove p) 1 0)

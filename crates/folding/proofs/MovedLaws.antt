@@ -42,13 +42,13 @@ module _ {v f keep remove gone : ℕ} {w w' : List ℕ} (p q : List Float) (keep
     tidy = h .tidy;
     same-mesh =
         rw (move, add)
-        (mesh-of-parts _ _ _ _
+        (mesh-of-parts _ _ _ _ _ _
         (each-same (vertexAt v f w (withPoint p keep place) (withQuadric q keep (quadricSum (quadricAt q keep) (quadricAt q remove)))) _ v
         (λ x l. rw (h .but .over (kindsFrom v f + x) (omega arith)))
         ∙ mesh-moved v f w p q keep place (quadricSum (quadricAt q keep) (quadricAt q remove)) keep-v p-long q-long
         ∙ ap (set (map (vertexAt v f w p q) (below v)) keep)
         (merged ∙ sym (ap₂ (mergedVertex bound) (mesh-point v f w p q keep _ keep-v) (mesh-point v f w p q remove _ remove-v))))
-        (h .same-faces));
+        (h .same-faces) (h .same-numbers));
     counted = h .counted;
     same-length-p = rw move (point-stored p keep place .same-length);
     same-length-q = rw add (quadric-stored q keep (quadricSum (quadricAt q keep) (quadricAt q remove)) .same-length);

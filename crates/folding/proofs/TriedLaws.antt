@@ -5,12 +5,14 @@ use native.Mathlib.Omega.{arith}
 use mathlib.Core.Path.{_≡_, refl, sym, ap₂, subst, _∙_, ap}
 use mathlib.Core.Logic.{_≢_}
 use mathlib.Core.List.{List}
-use mathlib.Core.Bool.{Bool, true, false}
 use lib.Ieee.{Float}
 use Rattle.placement.specs.declared.Fold.{Fold}
 use Rattle.placement.specs.declared.Limit.{Limit}
 use Rattle.placement.specs.Pairs.{pairPlace}
-use Rattle.walk.specs.FoldTest.{allowed}
+use Rattle.walk.specs.declared.Reason.{Reason}
+use Rattle.walk.specs.declared.Tested.{Tested}
+use Rattle.walk.specs.declared.Tested.the-variants.{Allowed, Not}
+use Rattle.walk.specs.FoldTest.{foldTest}
 use Rattle.walk.specs.Pairs.{pairOf}
 use Rattle.meaning.specs.Arithmetic.{rulesOf}
 use Rattle.memory.specs.Points.{vertexAt, meshOf}
@@ -20,8 +22,8 @@ use Rattle.mesh.proofs.TidyLaws.{tidy-but}
 use Rattle.ring.specs.declared.Ring.{Ring}
 use Rattle.ring.specs.Contracts.Marking.{Around}
 use Rattle.ring.specs.Contracts.Rings.{RingGathered}
-use Rattle.foldtest.specs.Contracts.Allowed.{allowedAt}
-use Rattle.foldtest.proofs.AllowedLaws.{allowed-is}
+use Rattle.foldtest.specs.Contracts.Allowed.{testedAt}
+use Rattle.foldtest.proofs.AllowedLaws.{tested-is}
 use Rattle.folding.specs.declared.Tried.{Tried}
 use Rattle.folding.specs.declared.Tried.the-variants.{Folded, Refused}
 use Rattle.folding.specs.Contracts.Folds.{MeshFolded, FoldTried}
@@ -57,20 +59,20 @@ module _ {v f : ℕ} {w w₁ : List ℕ} (fold : Fold) {ring : Ring} (tidy : Tid
         (vertex-but v f p q (done .but) (omega arith) (fold .remove) (points .1)))
 
     -- what the test answers, in the words of the definition
-    told : {ok : Bool} → ok ≡ allowedAt v f w₁ p (fold .keep) (fold .remove) (fold .place) →
-        allowed (rulesOf limit bound) (meshOf v f w₁ p q) (pairOf (fold .keep) (fold .remove)) ≡ ok
-    told is = sym (is ∙ allowed-is limit bound v f w₁ p q (points .0) (points .1) listed-place (listed-tidy .faces-proper))
+    told : {t : Tested} → t ≡ testedAt v f w₁ p (fold .keep) (fold .remove) (fold .place) →
+        foldTest (rulesOf limit bound) (meshOf v f w₁ p q) (pairOf (fold .keep) (fold .remove)) ≡ t
+    told is = sym (is ∙ tested-is limit bound v f w₁ p q (points .0) (points .1) listed-place (listed-tidy .faces-proper))
 
     -- it passes, and the fold is made
-    pub fold-made : {ok : Bool} {w' : List ℕ} {p' q' : List Float} {gone : ℕ} → ok ≡ allowedAt v f w₁ p (fold .keep) (fold .remove) (fold .place) → ok ≡ true →
+    pub fold-made : {t : Tested} {w' : List ℕ} {p' q' : List Float} {gone : ℕ} → t ≡ testedAt v f w₁ p (fold .keep) (fold .remove) (fold .place) → t ≡ Allowed →
         ((limit : Limit) (bound : Float) → fold .place ≡ pairPlace bound (vertexAt v f w₁ p q (fold .keep)) (vertexAt v f w₁ p q (fold .remove)) →
         MeshFolded v f limit bound w₁ p q (fold .keep) (fold .remove) w' p' q' gone) →
         FoldTried v f limit bound w p q (fold .keep) (fold .remove) w' p' q' (Folded gone)
     fold-made is passes fold-mesh = record { listed = w₁; but = done .but; came = (told is ∙ passes, fold-mesh limit bound listed-place) }
 
     -- it doesn't, and no cell changes
-    pub fold-refused : {ok : Bool} {w' : List ℕ} → ok ≡ allowedAt v f w₁ p (fold .keep) (fold .remove) (fold .place) → ok ≡ false → w' ≡ w₁ →
-        FoldTried v f limit bound w p q (fold .keep) (fold .remove) w' p q Refused
+    pub fold-refused : {t : Tested} {w' : List ℕ} {reason : Reason} → t ≡ testedAt v f w₁ p (fold .keep) (fold .remove) (fold .place) → t ≡ Not reason → w' ≡ w₁ →
+        FoldTried v f limit bound w p q (fold .keep) (fold .remove) w' p q (Refused reason)
     fold-refused is fails same = record { listed = w₁; but = done .but; came = (told is ∙ fails, same, refl, refl) }
 
 -- what it came to, by the case that it is

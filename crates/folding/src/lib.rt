@@ -18,11 +18,13 @@ use placement::Fold;
 use ring::Ring;
 use steps::kill;
 use steps::relist;
+use walk::Reason;
+use walk::Tested;
 
-// What trying a fold came to: it was made, and so many faces went, or it isn't allowed.
+// What trying a fold came to: it was made, and so many faces went, or it isn't allowed, and why.
 pub enum Tried {
     Folded(usize),
-    Refused,
+    Refused(Reason),
 }
 
 // Folds remove into keep in the faces, by the live faces around the two. Says how many faces went.
@@ -73,9 +75,11 @@ pub fn try_fold(
     ensures { λ r. ⌜ ((limit : LimitS) (bound : Float) → fold .place ≡ pairPlace bound (vertexAt v f (now (w .entry)) (now (p .entry)) (now (q .entry)) (fold .keep)) (vertexAt v f (now (w .entry)) (now (p .entry)) (now (q .entry)) (fold .remove)) → FoldTried v f limit bound (now (w .entry)) (now (p .entry)) (now (q .entry)) (fold .keep) (fold .remove) (now (w .exit)) (now (p .exit)) (now (q .exit)) r) ⌝ }
 {
     let ring = ring::gather(w, v, f, fold.keep, fold.remove);
-    if foldtest::is_allowed(w, p, v, f, fold, ring) {
-        let gone = fold_mesh(w, p, q, v, f, fold, ring);
-        return Tried::Folded(gone);
+    match foldtest::tested(w, p, v, f, fold, ring) {
+        Tested::Allowed => {
+            let gone = fold_mesh(w, p, q, v, f, fold, ring);
+            Tried::Folded(gone)
+        }
+        Tested::Not(reason) => Tried::Refused(reason),
     }
-    Tried::Refused
 }

@@ -1,37 +1,43 @@
 -- The fold test in memory is the definition's: for any quadrics, length limit and bound for which the place is the pair's.
 -- Assumes nothing.
 use Prim.Native.Nat.{ℕ, _<_}
-use mathlib.Core.Path.{_≡_, sym, ap, ap₂, _∙_}
-use mathlib.Core.List.{List}
-use mathlib.Core.Bool.{Bool, true, _&&_, _||_}
-use lib.Dec.{leb, eqb}
+use mathlib.Core.Path.{_≡_, refl, sym, ap, ap₂, _∙_}
+use mathlib.Core.List.{List, [], _∷_}
+use mathlib.Core.Bool.{Bool, true, _||_, cond}
+use lib.Dec.{eqb}
 use lib.Ieee.{Float}
+use lib.ListN.{getD, drop}
 use Rattle.geometry.specs.declared.Point.{Point}
 use Rattle.placement.specs.declared.Limit.{Limit}
 use Rattle.placement.specs.declared.pair.Vertex.{Vertex}
 use Rattle.placement.specs.Pairs.{pairPlace}
 use Rattle.walk.specs.declared.Face.{Face}
 use Rattle.lists.specs.Lists.{every}
-use Rattle.walk.specs.Faces.{proper, shared, common, dataOf, mergedOf}
-use Rattle.walk.specs.FoldTest.{movedOf, fairFace, allowed}
+use Rattle.walk.specs.declared.Reason.the-variants.{NotLinked}
+use Rattle.walk.specs.declared.Tested.{Tested}
+use Rattle.walk.specs.declared.Tested.the-variants.{Not}
+use Rattle.walk.specs.Faces.{proper, dataOf, mergedOf}
+use Rattle.walk.specs.FoldTest.{linked, orElse, firstHarm, movedOf, faceTest, foldTest}
 use Rattle.walk.specs.Pairs.{pairOf}
 use Rattle.lists.proofs.TestLaws.{by-test}
-use Rattle.lists.proofs.EveryLaws.{map-same, every-map}
+use Rattle.lists.proofs.EveryLaws.{every-head, every-tail}
 use Rattle.walk.proofs.FaceLaws.{corners}
-use Rattle.memory.specs.Memory.{liveFaces, Proper}
+use Rattle.memory.specs.Memory.{liveFaces, liveNumbers, Proper}
 use Rattle.meaning.specs.Input.{pointAt}
 use Rattle.memory.specs.Points.{vertexAt, meshOf}
 use Rattle.meaning.specs.Arithmetic.{mergedVertex, rulesOf}
 use Rattle.memory.proofs.MeshLaws.{mesh-length, mesh-point}
-use Rattle.foldtest.specs.Contracts.Fair.{movedAt, fairFaceAt}
-use Rattle.foldtest.specs.Contracts.Allowed.{allowedAt}
+use Rattle.foldtest.specs.Contracts.Fair.{movedAt, harmAt}
+use Rattle.foldtest.specs.Contracts.Allowed.{testedAt}
 use Rattle.mesh.proofs.AroundLaws.{live-proper}
 
--- two tests that agree where a third passes, over a list where every one passes that
-every-agree : {A : Type 0} (test other ok : A → Bool) → ((x : A) → ok x ≡ true → test x ≡ other x) →
-    (xs : List A) → every ok xs ≡ true → every test xs ≡ every other xs
-every-agree test other ok same xs all =
-    sym (every-map (λ b. b) test xs) ∙ ap (every (λ (b : Bool). b)) (map-same test other ok same xs all) ∙ every-map (λ b. b) other xs
+-- two tests that agree of the faces that pass a third one say the same of faces that all pass it
+first-agree : (test other : ℕ → Face → Tested) (ok : Face → Bool) → ((number : ℕ) (face : Face) → ok face ≡ true → test number face ≡ other number face) →
+    (faces : List Face) (numbers : List ℕ) → every ok faces ≡ true → firstHarm test faces numbers ≡ firstHarm other faces numbers
+unfolding firstHarm
+first-agree test other ok same [] numbers all = refl
+first-agree test other ok same (f ∷ faces) numbers all =
+    ap₂ orElse (same (getD numbers 0 0) f (every-head ok f faces all)) (first-agree test other ok same faces (drop 1 numbers) (every-tail ok f faces all))
 
 module _ (limit : Limit) (bound : Float) (v f : ℕ) (w : List ℕ) (p q : List Float) {keep remove : ℕ} {place : Point}
     (keep-below : keep < v) (remove-below : remove < v)
@@ -52,10 +58,10 @@ module _ (limit : Limit) (bound : Float) (v f : ℕ) (w : List ℕ) (p q : List 
   moved-is x h = by-test (eqb x keep || eqb x remove) (λ t. rw t merged-is) (λ t. rw t (point-is x h))
 
   -- the same of a face's three points
-  fair-is : (face : Face) → proper v face ≡ true →
-      fairFace (rulesOf limit bound) (meshOf v f w p q) (pairOf keep remove) face ≡ fairFaceAt p keep remove place face
-  unfolding fairFace fairFaceAt rulesOf
-  fair-is face good =
+  harm-is : (number : ℕ) (face : Face) → proper v face ≡ true →
+      faceTest (rulesOf limit bound) (meshOf v f w p q) (pairOf keep remove) number face ≡ harmAt p keep remove place number face
+  unfolding faceTest harmAt rulesOf
+  harm-is number face good =
       let c = corners v face good in
       rw (
         point-is (face .a) (c .a-below),
@@ -67,12 +73,10 @@ module _ (limit : Limit) (bound : Float) (v f : ℕ) (w : List ℕ) (p q : List 
       )
 
   -- so the test is the definition's
-  pub allowed-is : Proper v f w → allowedAt v f w p keep remove place ≡ allowed (rulesOf limit bound) (meshOf v f w p q) (pairOf keep remove)
-  unfolding allowedAt allowed meshOf
-  allowed-is good =
-      let faces = liveFaces f w in
-      let both-hold = shared faces keep remove in
-      ap₂ (λ (n : ℕ) (fair : Bool). leb 1 both-hold && eqb (common n faces keep remove) both-hold && fair)
+  pub tested-is : Proper v f w → testedAt v f w p keep remove place ≡ foldTest (rulesOf limit bound) (meshOf v f w p q) (pairOf keep remove)
+  unfolding testedAt foldTest meshOf
+  tested-is good =
+      ap₂ (λ (n : ℕ) (t : Tested). cond (linked n (liveFaces f w) keep remove) t (Not NotLinked))
       (sym (mesh-length v f w p q))
-      (sym (every-agree (fairFace (rulesOf limit bound) (meshOf v f w p q) (pairOf keep remove)) (fairFaceAt p keep remove place) (proper v)
-      fair-is faces (live-proper v f w good)))
+      (sym (first-agree (faceTest (rulesOf limit bound) (meshOf v f w p q) (pairOf keep remove)) (harmAt p keep remove place) (proper v)
+      harm-is (liveFaces f w) (liveNumbers f w) (live-proper v f w good)))

@@ -1,34 +1,47 @@
 -- The two tests of a face's normals, taken one after the other.
 -- Assumes nothing.
-use mathlib.Core.Path.{_≡_, refl, ap}
-use mathlib.Core.Bool.{Bool, true, false, not, _&&_}
-use lib.Ieee.{Float, binary32, mul, lt}
+use Prim.Native.Nat.{ℕ}
+use mathlib.Core.Path.{_≡_, sym, _∙_}
+use mathlib.Core.Bool.{Bool, true, false}
+use lib.Ieee.{Float}
 use Rattle.geometry.specs.declared.Point.{Point}
 use Rattle.geometry.specs.Points.{dot, norm}
-use Rattle.lists.proofs.TestLaws.{clash}
-use Rattle.meaning.specs.Arithmetic.{tiny, hundredth, fairNormals}
+use Rattle.walk.specs.declared.Reason.the-variants.{Squashed, TurnedOver}
+use Rattle.walk.specs.declared.Tested.the-variants.{Allowed, Not}
+use Rattle.walk.specs.FoldTest.{harm}
+use Rattle.meaning.specs.Arithmetic.{squashedNormals, turnedNormals}
 use Rattle.foldtest.specs.Contracts.Fair.{squashed, turned}
 
--- two tests, each known by its opposite: the first fails, or the second decides
-first-fails : {r : Bool} (x y : Bool) → r ≡ not x → r ≡ true → false ≡ (x && y)
-first-fails true y e t = clash t e
-first-fails false y e t = refl
+-- the first test fails, or the second does, or neither
+harm-first : (number : ℕ) (s t : Bool) → s ≡ true → Not (Squashed number) ≡ harm number true s t
+unfolding harm
+harm-first number s t e = rw e
 
-second-decides : {r s : Bool} (x y : Bool) → r ≡ not x → r ≡ false → s ≡ not y → not s ≡ (x && y)
-second-decides true true e t d = ap not d
-second-decides true false e t d = ap not d
-second-decides false y e t d = clash e t
+harm-second : (number : ℕ) (s t : Bool) → s ≡ false → t ≡ true → Not (TurnedOver number) ≡ harm number true s t
+unfolding harm
+harm-second number s t e d = rw (e, d)
 
-module _ (before after : Point) {b a : Float} (norm-before : b ≡ norm before) (norm-after : a ≡ norm after)
+harm-none : (number : ℕ) (s t : Bool) → s ≡ false → t ≡ false → Allowed ≡ harm number true s t
+unfolding harm
+harm-none number s t e d = rw (e, d)
+
+module _ (number : ℕ) (before after : Point) {b a : Float} (norm-before : b ≡ norm before) (norm-after : a ≡ norm after)
     {r : Bool} (first : r ≡ squashed b a) where
-  -- a squashed face is not fair
-  pub squashed-unfair : r ≡ true → false ≡ fairNormals before after
-  squashed-unfair t =
-      rw (← norm-before, ← norm-after)
-      (first-fails (lt (mul binary32 tiny b) a) (lt (mul binary32 (mul binary32 hundredth b) a) (dot before after)) first t)
+  -- the first, in the words of the definition
+  squashes : r ≡ squashedNormals before after
+  squashes = rw (← norm-before, ← norm-after) first
 
-  -- one that isn't is fair unless it is turned over
-  pub turned-unfair : r ≡ false → {d : Float} → d ≡ dot before after → {s : Bool} → s ≡ turned b a d → not s ≡ fairNormals before after
-  turned-unfair t e second =
-      rw (← norm-before, ← norm-after)
-      (second-decides (lt (mul binary32 tiny b) a) (lt (mul binary32 (mul binary32 hundredth b) a) (dot before after)) first t (rw e at second))
+  -- a face is squashed
+  pub judged-squashed : r ≡ true → Not (Squashed number) ≡ harm number true (squashedNormals before after) (turnedNormals before after)
+  judged-squashed t = harm-first number _ _ (sym squashes ∙ t)
+
+  module _ (left : r ≡ false) {d : Float} (dotted : d ≡ dot before after) {s : Bool} (second : s ≡ turned b a d) where
+    turns : s ≡ turnedNormals before after
+    turns = rw (← norm-before, ← norm-after, ← dotted) second
+
+    -- one that isn't is turned over, or neither
+    pub judged-turned : s ≡ true → Not (TurnedOver number) ≡ harm number true (squashedNormals before after) (turnedNormals before after)
+    judged-turned t = harm-second number _ _ (sym squashes ∙ left) (sym turns ∙ t)
+
+    pub judged-fair : s ≡ false → Allowed ≡ harm number true (squashedNormals before after) (turnedNormals before after)
+    judged-fair t = harm-none number _ _ (sym squashes ∙ left) (sym turns ∙ t)

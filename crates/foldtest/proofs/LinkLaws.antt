@@ -1,7 +1,7 @@
--- The test of numbers, and the two tests together.
+-- The test of numbers, and after it that of faces.
 -- Assumes nothing.
 use Prim.Native.Nat.{ℕ, _≤_, _<_}
-use mathlib.Core.Path.{_≡_, refl, sym, ap, ap₂, _∙_}
+use mathlib.Core.Path.{_≡_, refl, sym, ap₂, _∙_}
 use mathlib.Core.List.{List}
 use mathlib.Core.Bool.{Bool, true, false, _&&_}
 use lib.Dec.{leb, eqb}
@@ -10,10 +10,15 @@ use borrow.Author.Tests.{le-leb, lt-leb}
 use Rattle.geometry.specs.declared.Point.{Point}
 use Rattle.lists.specs.Lists.{count, stretch}
 use Rattle.walk.specs.Faces.{holds, common, faceAt}
-use Rattle.memory.specs.Memory.{liveFaces}
+use Rattle.memory.specs.Memory.{liveFaces, liveNumbers}
 use Rattle.mesh.specs.Contracts.Around.{Gathered}
 use Rattle.ring.proofs.LiveLaws.{count-gathered}
-use Rattle.foldtest.specs.Contracts.Allowed.{linked, fairAround, allowedAt}
+use Rattle.walk.specs.declared.Reason.the-variants.{NotLinked}
+use Rattle.walk.specs.declared.Tested.{Tested}
+use Rattle.walk.specs.declared.Tested.the-variants.{Not}
+use Rattle.walk.specs.FoldTest.{linked, firstHarm}
+use Rattle.foldtest.specs.Contracts.Fair.{harmAt}
+use Rattle.foldtest.specs.Contracts.Allowed.{testedAt}
 
 module _ {v f : ℕ} {w : List ℕ} {keep near n s : ℕ} (remove : ℕ) (at-keep : Gathered v f w keep near n)
     (counted : s ≡ count (λ k. holds remove (faceAt w k)) (stretch w near n)) where
@@ -30,15 +35,13 @@ module _ {v f : ℕ} {w : List ℕ} {keep near n s : ℕ} (remove : ℕ) (at-kee
 
 module _ (v f : ℕ) (w : List ℕ) (p : List Float) (keep remove : ℕ) (place : Point) {a : Bool}
     (first : a ≡ linked v (liveFaces f w) keep remove) where
-  -- the first test fails
-  pub not-allowed : a ≡ false → false ≡ allowedAt v f w p keep remove place
-  unfolding allowedAt
-  not-allowed t = sym (ap (λ (l : Bool). l && fairAround p (liveFaces f w) keep remove place) (sym first ∙ t))
+  -- the points aren't linked
+  pub tested-unlinked : a ≡ false → Not NotLinked ≡ testedAt v f w p keep remove place
+  unfolding testedAt
+  tested-unlinked t = rw (sym first ∙ t)
 
-  -- it passes, so the second decides
-  pub allowed-decided : a ≡ true → {w' : List ℕ} → w' ≡ w → {b : Bool} → b ≡ fairAround p (liveFaces f w') keep remove place →
-      b ≡ allowedAt v f w p keep remove place
-  unfolding allowedAt
-  allowed-decided t same d =
-      d ∙ ap (λ (w : List ℕ). fairAround p (liveFaces f w) keep remove place) same
-      ∙ sym (ap (λ (l : Bool). l && fairAround p (liveFaces f w) keep remove place) (sym first ∙ t))
+  -- they are, so the faces decide
+  pub tested-by-faces : a ≡ true → {w' : List ℕ} → w' ≡ w → {r : Tested} →
+      r ≡ firstHarm (harmAt p keep remove place) (liveFaces f w') (liveNumbers f w') → r ≡ testedAt v f w p keep remove place
+  unfolding testedAt
+  tested-by-faces t same d = rw (sym first ∙ t) (rw same at d)

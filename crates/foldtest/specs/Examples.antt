@@ -5,7 +5,7 @@ use mathlib.Core.Bool.{true, false}
 use Rattle.walk.specs.declared.Face.{Face}
 use Rattle.lists.specs.Lists.{sum, below}
 use Rattle.walk.specs.Faces.{shared, common}
-use Rattle.foldtest.specs.Contracts.Allowed.{linked}
+use Rattle.walk.specs.FoldTest.{linked}
 
 -- two triangles that meet at the edge 0 1
 abbrev pub glued : List Face

@@ -4,13 +4,17 @@ ghost use Prim.Native.Nat.{_+_, _*_, _<_};
 ghost use lib.ListN.{length};
 ghost use Rattle.geometry.specs.Points.{normal as normalOf};
 ghost use Rattle.meaning.specs.Input.{pointAt};
-ghost use Rattle.meaning.specs.Arithmetic.{fairNormals};
-ghost use Rattle.foldtest.specs.Contracts.Fair.{Placed, squashed, turned, movedAt, fairAt};
+ghost use Rattle.walk.specs.FoldTest.{harm};
+ghost use Rattle.meaning.specs.Arithmetic.{squashedNormals, turnedNormals};
+ghost use mathlib.Core.Bool.{true};
+ghost use Rattle.foldtest.specs.Contracts.Fair.{Placed, squashed, turned, movedAt, squashedAt, turnedAt};
 use geometry::Point;
 use geometry::normal;
 use memory::point_at;
 use placement::Fold;
 use walk::Face;
+use walk::Reason;
+use walk::Tested;
 
 // Where a point is after the fold.
 fn moved(p: &[f32], x: u32, fold: Fold) -> Point
@@ -64,22 +68,25 @@ fn is_turned(before: f32, after: f32, dot: f32) -> bool
     !(dot > 0.01 * before * after)
 }
 
-// Whether a face with these normals is neither squashed nor turned over. Each norm is worked out once.
-fn are_fair(before: Point, after: Point) -> bool
-    ensures { λ r. ⌜ r ≡ fairNormals before after ⌝ }
+// What is told of the face of a number with these normals: squashed is asked before turned over. Each norm is worked out once.
+fn judged(number: usize, before: Point, after: Point) -> Tested
+    ensures { λ r. ⌜ r ≡ harm number true (squashedNormals before after) (turnedNormals before after) ⌝ }
 {
     let b = before.norm();
     let a = after.norm();
     if is_squashed(b, a) {
-        return false;
+        return Tested::Not(Reason::Squashed(number));
     }
-    !is_turned(b, a, before.dot(after))
+    if is_turned(b, a, before.dot(after)) {
+        return Tested::Not(Reason::TurnedOver(number));
+    }
+    Tested::Allowed
 }
 
-// Whether the fold neither squashes a face nor turns it over.
-pub fn is_fair(p: &[f32], face: Face, fold: Fold) -> bool
+// What the fold does to the face of a number.
+pub fn tested_face(p: &[f32], number: usize, face: Face, fold: Fold) -> Tested
     requires { ⌜ Placed (now p) face ⌝ }
-    ensures { λ r. ⌜ r ≡ fairAt (now (p .entry)) (fold .keep) (fold .remove) (fold .place) face ⌝ }
+    ensures { λ r. ⌜ r ≡ harm number true (squashedAt (now (p .entry)) (fold .keep) (fold .remove) (fold .place) face) (turnedAt (now (p .entry)) (fold .keep) (fold .remove) (fold .place) face) ⌝ }
 {
-    are_fair(normal_before(p, face), normal_after(p, face, fold))
+    judged(number, normal_before(p, face), normal_after(p, face, fold))
 }

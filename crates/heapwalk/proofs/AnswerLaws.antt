@@ -6,7 +6,7 @@ use native.Mathlib.Omega.{arith}
 use mathlib.Core.Path.{_≡_, refl, sym, ap, subst, _∙_}
 use mathlib.Core.Logic.{inl, inr}
 use mathlib.Core.List.{List}
-use mathlib.Core.Bool.{Bool, cond, false≢true}
+use mathlib.Core.Bool.{cond, false≢true}
 use lib.Dec.{leb}
 use lib.Ieee.{Float}
 use lib.ListN.{length}
@@ -16,8 +16,10 @@ use Rattle.placement.specs.declared.Limit.{Limit}
 use Rattle.placement.specs.declared.pair.Vertex.{Vertex}
 use Rattle.lists.specs.Lists.{sum, those, some, without, below}
 use Rattle.walk.specs.Faces.{Mesh}
-use Rattle.walk.specs.FoldTest.{allowed}
-use Rattle.walk.specs.Walk.{StepAnswer, folded, closed, ended, tried, chosen, answer, after, SameState}
+use Rattle.walk.specs.declared.Reason.{Reason}
+use Rattle.walk.specs.declared.Tested.{Tested}
+use Rattle.walk.specs.FoldTest.{foldTest}
+use Rattle.walk.specs.Walk.{StepAnswer, closed, ended, toldBy, tried, chosen, answer, after, SameState}
 use Rattle.walk.specs.Pairs.{pairOf}
 use Rattle.walk.proofs.SamePairs.{same-self}
 use Rattle.lists.proofs.BagLaws.{bag-refl}
@@ -53,14 +55,15 @@ use Rattle.lists.proofs.CondLaws.{cond-same}
 -- ---- a pair that is off the queue
 
 module _ {v f : ℕ} {w : List ℕ} {p q : List Float} {n live : ℕ} {bound : Float} {keep remove : ℕ} {place : Point}
-    (h : PairHolds v f w p q n live bound keep remove place) (limit : Limit) where
+    (h : PairHolds v f w p q n live bound keep remove place) (limit : Limit) (reason : Reason) where
   -- closed, it is open no more: what is left is the queue's
-  closed-state : SameState (heapState v f w p q n) (after (rulesOf limit bound) (pairState v f w p q n (pairOf keep remove)) (closed (pairOf keep remove)))
+  closed-state : SameState (heapState v f w p q n)
+      (after (rulesOf limit bound) (pairState v f w p q n (pairOf keep remove)) (closed (pairOf keep remove) reason))
   unfolding heapState pairState after without
   closed-state = record { same-mesh = refl; same-open = rw (same-self (pairOf keep remove)) bag-refl }
 
-  pub closed-done : PairAnswer v f w p q n keep remove limit bound (closed (pairOf keep remove)) w p q
-      (record { step = Closed (pairOf keep remove); «open» = n; live = live })
+  pub closed-done : PairAnswer v f w p q n keep remove limit bound (closed (pairOf keep remove) reason) w p q
+      (record { step = Closed (pairOf keep remove) reason; «open» = n; live = live })
   closed-done =
       let x = pairOf keep remove in
       record {
@@ -68,7 +71,7 @@ module _ {v f : ℕ} {w : List ℕ} {p q : List Float} {n live : ℕ} {bound : F
           holds =
               record {
                 «open» = h .held .«open»;
-                sound = sound-bag closed-state (close-sound (rulesOf limit bound) (pairState v f w p q n x) (h .held .sound) x);
+                sound = sound-bag closed-state (close-sound (rulesOf limit bound) (pairState v f w p q n x) (h .held .sound) x reason);
                 counted = h .held .counted;
                 young = h .held .young;
               };
@@ -82,8 +85,8 @@ module _ {v f : ℕ} {w : List ℕ} {p q : List Float} {n live : ℕ} {bound : F
 
 -- what the test says decides which answer is given
 pub tried-by : (v f : ℕ) (w : List ℕ) (p q : List Float) (n keep remove : ℕ) (limit : Limit) (bound : Float) {w' : List ℕ} {p' q' : List Float} {r : Stepped}
-    {passed : Bool} → allowed (rulesOf limit bound) (meshOf v f w p q) (pairOf keep remove) ≡ passed →
-    PairAnswer v f w p q n keep remove limit bound (cond passed (folded (pairOf keep remove)) (closed (pairOf keep remove))) w' p' q' r →
+    {t : Tested} → foldTest (rulesOf limit bound) (meshOf v f w p q) (pairOf keep remove) ≡ t →
+    PairAnswer v f w p q n keep remove limit bound (toldBy (pairOf keep remove) t) w' p' q' r →
     PairAnswer v f w p q n keep remove limit bound (tried (rulesOf limit bound) (meshOf v f w p q) (pairOf keep remove)) w' p' q' r
 unfolding tried
 tried-by v f w p q n keep remove limit bound is done = rw is done

@@ -44,7 +44,7 @@ pub mesh-floats : (v f : ℕ) (w : List ℕ) {p q p' q' : List Float} {up-p up-q
     meshOf v f w p' q' ≡ meshOf v f w p q
 unfolding meshOf
 mesh-floats v f w {p} {q} {p'} {q'} points quadrics =
-    mesh-of-parts _ _ _ _
+    mesh-of-parts _ _ _ _ _ _
     (each-same (vertexAt v f w p q) (vertexAt v f w p' q') v
     (λ x l. rw (
       points .under (3 * x) (omega arith),
@@ -61,7 +61,7 @@ mesh-floats v f w {p} {q} {p'} {q'} points quadrics =
       quadrics .under (10 * x + 8) (omega arith),
       quadrics .under (10 * x + 9) (omega arith),
     )))
-    refl
+    refl refl
 
 -- ---- an answer that is given after a change that leaves the state
 

@@ -13,7 +13,7 @@ use Rattle.mesh.proofs.AroundLaws.{live-faces-but}
 use Rattle.mesh.proofs.TidyLaws.{tidy-but}
 use Rattle.memory.specs.Points.{vertexAt, meshOf}
 use Rattle.memory.proofs.PointLaws.{point-same, quadric-same}
-use Rattle.memory.proofs.MeshLaws.{mesh-of-parts}
+use Rattle.memory.proofs.MeshLaws.{mesh-of-parts, live-numbers-but}
 use Rattle.memory.specs.Entries.{slotAt}
 use Rattle.memory.specs.Layout.{foldsFrom, kindsFrom, marksFrom, nearFrom, orderFrom}
 use Rattle.openpairs.specs.Contracts.Waiting.{fits}
@@ -42,7 +42,7 @@ module _ (v f : ℕ) {lo hi hi-p hi-q : ℕ} {w w' : List ℕ} {p p' q q' : List
 
   pub mesh-stays : meshOf v f w' p' q' ≡ meshOf v f w p q
   unfolding meshOf
-  mesh-stays = mesh-of-parts _ _ _ _ (map-same-below _ _ v vertex-stays) (live-faces-but f but (omega arith))
+  mesh-stays = mesh-of-parts _ _ _ _ _ _ (map-same-below _ _ v vertex-stays) (live-faces-but f but (omega arith)) (live-numbers-but f but (omega arith))
 
 -- ---- what the walk holds: no cell below the lists around a point changes, and none that the queue hangs on
 

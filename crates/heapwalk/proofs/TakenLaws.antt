@@ -16,8 +16,10 @@ use Rattle.walk.specs.declared.Pair.{Pair}
 use Rattle.lists.specs.Lists.{sum, count}
 use Rattle.walk.specs.Pairs.{samePair, order}
 use Rattle.walk.specs.Faces.{Rules, Mesh}
-use Rattle.walk.specs.FoldTest.{allowed}
-use Rattle.walk.specs.Walk.{StepAnswer, folded, closed, tried, answer, SameState}
+use Rattle.walk.specs.declared.Tested.{Tested}
+use Rattle.walk.specs.declared.Tested.the-variants.{Allowed, Not}
+use Rattle.walk.specs.FoldTest.{foldTest}
+use Rattle.walk.specs.Walk.{StepAnswer, toldBy, tried, answer, SameState}
 use Rattle.lists.proofs.TestLaws.{by-test}
 use Rattle.lists.proofs.EveryLaws.{some-count, every-kept, every-tail}
 use Rattle.walk.proofs.SamePairs.{pair-path, same-self}
@@ -65,18 +67,19 @@ module _ {v f : ℕ} {w : List ℕ} {q : List Float} {n : ℕ} {w' : List ℕ} {
   took-none e took = rw e at took
 
 -- a pair that is tried is folded or closed, by the fold test
-tried-is : {D : Type 0} (rules : Rules D) (m : Mesh D) (x : Pair) → tried rules m x ≡ cond (allowed rules m x) (folded x) (closed x)
+tried-is : {D : Type 0} (rules : Rules D) (m : Mesh D) (x : Pair) → tried rules m x ≡ toldBy x (foldTest rules m x)
 unfolding tried
 tried-is rules m x = refl
 
 -- either way the step has taken that pair off the queue
 queue-step : (v f : ℕ) (w : List ℕ) (p q : List Float) (n target : ℕ) (limit : Limit) (bound : Float) (w' : List ℕ) (p' q' : List Float) (n' : ℕ) (x : Pair)
-    (passed : Bool) {a : StepAnswer} → a ≡ cond passed (folded x) (closed x) → PairTaken v f w p q n target limit bound x a w' p' q' n' →
+    (t : Tested) {a : StepAnswer} → a ≡ toldBy x t → PairTaken v f w p q n target limit bound x a w' p' q' n' →
     QueueStep v f w p q n target limit bound w' p' q' n' a
-queue-step v f w p q n target limit bound w' p' q' n' x true e taken =
+unfolding toldBy
+queue-step v f w p q n target limit bound w' p' q' n' x Allowed e taken =
     subst (λ (a : StepAnswer). QueueStep v f w p q n target limit bound w' p' q' n' a) (sym e)
     (subst (λ (a : StepAnswer). PairTaken v f w p q n target limit bound x a w' p' q' n') e taken)
-queue-step v f w p q n target limit bound w' p' q' n' x false e taken =
+queue-step v f w p q n target limit bound w' p' q' n' x (Not reason) e taken =
     subst (λ (a : StepAnswer). QueueStep v f w p q n target limit bound w' p' q' n' a) (sym e)
     (subst (λ (a : StepAnswer). PairTaken v f w p q n target limit bound x a w' p' q' n') e taken)
 
@@ -230,7 +233,7 @@ module _ {v f : ℕ} {w : List ℕ} {p q : List Float} {n live : ℕ} {bound : F
               subst (λ (a : StepAnswer). StampsRaised v f w a w'') (sym (done .tied .same-answer))
               (λ y l. done .raised y l ∙ ap (λ (k : ℕ). k + cond (raises (tried rules (meshOf v f w' p q) (pairAt v f w' s)) y) 1 0) (taken .but .under (stampsFrom v f + y) (omega arith)));
           on-queue =
-              queue-step v f w p q n target limit bound w'' p'' q'' (r .«open») x (allowed rules (meshOf v f w p q) x) (told ∙ tried-is rules (meshOf v f w p q) x)
+              queue-step v f w p q n target limit bound w'' p'' q'' (r .«open») x (foldTest rules (meshOf v f w p q) x) (told ∙ tried-is rules (meshOf v f w p q) x)
               (pair-taken above
               (subst (λ (a : StepAnswer). Requeued (stampsOf v f w'') (entriesIn v f w' p q left) (newEntries limit bound (meshOf v f w'' p'' q'') (stampsOf v f w'') a)
               (entriesIn v f w'' p'' q'' (r .«open»)))

@@ -66,5 +66,9 @@ module _ {v f : ℕ} {w : List ℕ} {p q : List Float} {target : ℕ} {limit : L
   pub same-folds-in-order : foldsIn v f w₁ (r₁ .folds) ≡ foldsIn v f w₂ (r₂ .folds)
   same-folds-in-order = one .same-list ∙ sym (two .same-list)
 
+  -- and have closed as many pairs for each reason
+  pub same-closings : r₁ .closed ≡ r₂ .closed
+  same-closings = one .same-closed ∙ sym (two .same-closed)
+
   pub same-mesh-left : meshOf v f w₁ p₁ q₁ ≡ meshOf v f w₂ p₂ q₂
   same-mesh-left = one .same-mesh ∙ sym (two .same-mesh)

@@ -9,7 +9,8 @@ use lib.Ieee.{Float}
 use lib.ListN.{length}
 use Rattle.geometry.specs.declared.Point.{Point}
 use Rattle.placement.specs.declared.Limit.{Limit}
-use Rattle.walk.specs.Walk.{tried}
+use Rattle.walk.specs.declared.Reason.{Reason}
+use Rattle.walk.specs.Walk.{toldBy, tried}
 use Rattle.walk.specs.Pairs.{pairOf}
 use Rattle.meaning.specs.Arithmetic.{rulesOf}
 use Rattle.memory.specs.Memory.{liveFaces, Room}
@@ -56,16 +57,18 @@ module _ {v f : ℕ} {w : List ℕ} {p q : List Float} {n live : ℕ} {limit : L
           Entered v f w₃ p' q' n limit bound (openedAround (rulesOf limit bound) (meshOf v f w₃ p' q') false keep) w₄ p₄ q₄ more →
           PairAnswer v f w p q n keep remove limit bound (tried (rulesOf limit bound) (meshOf v f w p q) (pairOf keep remove)) w₄ p₄ q₄
           (record { step = Folded (pairOf keep remove); «open» = more; live = live - gone })
+      unfolding toldBy
       made-done enter =
           tried-before h (made .but) (omega arith) (omega arith)
           (tried-by _ _ _ _ _ _ _ _ _ _ (made .came .0) (folded-done listed-holds (made .came .1) one two enter))
 
   -- ---- it isn't allowed
 
-  pub refused-done : FoldTried v f limit bound w p q keep remove w₁ p' q' Refused →
+  pub refused-done : {reason : Reason} → FoldTried v f limit bound w p q keep remove w₁ p' q' (Refused reason) →
       PairAnswer v f w p q n keep remove limit bound (tried (rulesOf limit bound) (meshOf v f w p q) (pairOf keep remove)) w₁ p' q'
-      (record { step = Closed (pairOf keep remove); «open» = n; live = live })
-  refused-done refused =
+      (record { step = Closed (pairOf keep remove) reason; «open» = n; live = live })
+  unfolding toldBy
+  refused-done {reason} refused =
       rw (refused .came .1, refused .came .2, refused .came .3)
       (tried-before h (refused .but) (omega arith) (omega arith)
-      (tried-by _ _ _ _ _ _ _ _ _ _ (refused .came .0) (closed-done (pair-but h (refused .but) (omega arith) (omega arith)) limit)))
+      (tried-by _ _ _ _ _ _ _ _ _ _ (refused .came .0) (closed-done (pair-but h (refused .but) (omega arith) (omega arith)) limit reason)))

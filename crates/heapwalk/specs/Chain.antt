@@ -7,7 +7,9 @@ use lib.ListN.{length}
 use lib.Ieee.{Float}
 use Rattle.placement.specs.declared.Limit.{Limit}
 use Rattle.walk.specs.declared.Pair.{Pair}
-use Rattle.walk.specs.Walk.{foldOf, ended, started}
+use Rattle.walk.specs.declared.Reason.{Reason}
+use Rattle.walk.specs.Closings.{closingsOf}
+use Rattle.walk.specs.Walk.{StepAnswer, foldOf, reasonOf, ended, started}
 use Rattle.memory.specs.Points.{meshOf}
 use Rattle.memory.specs.Entries.{foldsIn}
 use Rattle.meaning.specs.Arithmetic.{rulesOf}
@@ -19,15 +21,21 @@ use Rattle.plainwalk.specs.Moments.{Moment, moment, noted}
 use Rattle.heapwalk.specs.Contracts.Entering.{Started}
 use Rattle.heapwalk.specs.Steps.{HeapHolds, HeapStepDone}
 
--- the folded pairs among the answers of steps, in order
-unfoldable pub foldsTold : List Step → List Pair
-foldsTold [] = []
-foldsTold (step ∷ steps) = foldOf (answerOf step) ++ foldsTold steps
+-- what the answers of steps tell, in order: the folded pairs, and the reasons for which others were closed
+unfoldable pub toldIn : {X : Type 0} → (StepAnswer → List X) → List Step → List X
+toldIn tells [] = []
+toldIn tells (step ∷ steps) = tells (answerOf step) ++ toldIn tells steps
+
+abbrev pub foldsTold : List Step → List Pair
+foldsTold = toldIn foldOf
+
+abbrev pub reasonsTold : List Step → List Reason
+reasonsTold = toldIn reasonOf
 
 -- a fold is written down after n others; nothing is written for a pair that is closed
 abbrev pub notedStep : ℕ → ℕ → ℕ → Step → Moment → Moment
 notedStep v f n (Folded x) m = noted v f n x m
-notedStep v f n (Closed x) m = m
+notedStep v f n (Closed x reason) m = m
 notedStep v f n Ended m = m
 
 module _ (v f target : ℕ) (limit : Limit) (bound : Float) where
@@ -54,8 +62,8 @@ module _ (v f target : ℕ) (limit : Limit) (bound : Float) where
   Chain n m [] m' = m' ≡ m
   Chain n m (step ∷ steps) m' = (next : Moment) × Link n m step next × Chain (n + length (foldOf (answerOf step))) next steps m'
 
-  -- The walk from a moment: a chain, and from its last state, which is held, the end. The memory is left as that step leaves it, and the folds written down
-  -- are those told on the way.
+  -- The walk from a moment: a chain, and from its last state, which is held, the end. The memory is left as that step leaves it, the folds written down are
+  -- those told on the way, and so are the reasons counted.
   pub record ChainFrom (m : Moment) (w' : List ℕ) (p' q' : List Float) (r : Walked) : Type 0 where
     pub steps : List Step
     pub last : Moment
@@ -65,6 +73,7 @@ module _ (v f target : ℕ) (limit : Limit) (bound : Float) where
     pub end : StepAt last Ended (moment w' p' q' left (r .live))
     pub folds-told : foldsIn v f w' (r .folds) ≡ foldsTold steps
     pub counted : r .folds ≡ length (foldsTold steps)
+    pub closed-told : r .closed ≡ closingsOf (reasonsTold steps)
 
   -- The heap walk of the mesh that is laid out: a chain from the started queue.
   pub record HeapWalked (w : List ℕ) (p q : List Float) (w' : List ℕ) (p' q' : List Float) (r : Walked) : Type 0 where

@@ -32,11 +32,11 @@ module _ (limit : Limit) (bound : Float) (m : Mesh Vertex) (stamps : List ℕ) w
   -- those that an answer puts in: a fold opens keep with each present neighbour
   abbrev pub newEntries : StepAnswer → List StoredEntry
   newEntries (folded x) = map entryFor (opened (rulesOf limit bound) m (x .keep))
-  newEntries (closed x) = []
+  newEntries (closed x reason) = []
   newEntries ended = []
 
 -- the points whose stamps an answer raises: both of a fold
 abbrev pub raises : StepAnswer → ℕ → Bool
 raises (folded x) y = eqb y (x .keep) || eqb y (x .remove)
-raises (closed x) y = false
+raises (closed x reason) y = false
 raises ended y = false

@@ -80,7 +80,8 @@ pub record NoneCurrent (v f : ℕ) (w : List ℕ) (p q : List Float) (n target n
 -- by the answer: the end is told at the target or with no current entry, and nowhere else
 abbrev pub QueueStep : (v f : ℕ) (w : List ℕ) (p q : List Float) (n target : ℕ) (limit : Limit) (bound : Float) (w' : List ℕ) (p' q' : List Float) (n' : ℕ) → StepAnswer → Type 0
 QueueStep v f w p q n target limit bound w' p' q' n' (folded x) = PairTaken v f w p q n target limit bound x (folded x) w' p' q' n'
-QueueStep v f w p q n target limit bound w' p' q' n' (closed x) = PairTaken v f w p q n target limit bound x (closed x) w' p' q' n'
+QueueStep v f w p q n target limit bound w' p' q' n' (closed x reason) =
+    PairTaken v f w p q n target limit bound x (closed x reason) w' p' q' n'
 QueueStep v f w p q n target limit bound w' p' q' n' ended = AtTarget f w p q n target w' p' q' n' ⊎ NoneCurrent v f w p q n target n'
 
 -- A step: its answer is the plain walk's, and so is the state after it; and what became of the queue.

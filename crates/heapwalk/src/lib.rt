@@ -23,6 +23,7 @@ use plainwalk::Step;
 use plainwalk::Stepped;
 use plainwalk::Walked;
 use queue::Taken;
+use walk::Closings;
 use walk::Pair;
 
 // Tries a pair that is off the queue: the mesh is folded where that is allowed, and then both stamps rise and the pairs around keep are entered; where it isn't
@@ -55,8 +56,8 @@ fn try_pair(
                 live: left,
             }
         }
-        Tried::Refused => Stepped {
-            step: Step::Closed(Pair { keep, remove }),
+        Tried::Refused(reason) => Stepped {
+            step: Step::Closed(Pair { keep, remove }, reason),
             open: entries,
             live,
         },
@@ -140,6 +141,11 @@ fn walk_on(
     let mut queued = entries;
     let mut faces_live = live;
     let mut folds = 0;
+    let mut closed = Closings {
+        unlinked: 0,
+        squashed: 0,
+        turned: 0,
+    };
     loop {
         let stepped = heap_step(w, p, q, v, f, queued, faces_live, target, bounds);
         queued = stepped.open;
@@ -150,10 +156,13 @@ fn walk_on(
                 memory::note_fold(w, v, f, folds, pair);
                 folds += 1;
             }
-            Step::Closed(_) => {}
+            Step::Closed(_, reason) => {
+                closed = walk::counted(closed, reason);
+            }
             Step::Ended => {
                 return Walked {
                     folds,
+                    closed,
                     live: faces_live,
                 };
             }

@@ -16,18 +16,18 @@ use Rattle.meaning.proofs.Determined.{determined-answer, determined}
 use Rattle.scanwriter.proofs.Determined.{writing-determined}
 use Rattle.hjoltravan.specs.Calls.{Called, CalledWithFolds, CalledToWrite}
 
--- hjoltravan_thin and hjoltravan_thin_plain: the lent buffers and the five cells
-pub called-determined : (i : Input) {engine : Engine} {before after₁ after₂ : Lent} {five₁ five₂ : List ℕ} →
-    Called engine i before after₁ five₁ → Called engine i before after₂ five₂ → (after₁ ≡ after₂) × (five₁ ≡ five₂)
-called-determined i a b = (determined-answer i (a .left) (b .left) .0, a .told ∙ sym (b .told))
+-- hjoltravan_thin and hjoltravan_thin_plain: the lent buffers, the five cells and the three
+pub called-determined : (i : Input) {engine : Engine} {before after₁ after₂ : Lent} {five₁ five₂ closed₁ closed₂ : List ℕ} →
+    Called engine i before after₁ five₁ closed₁ → Called engine i before after₂ five₂ closed₂ → (after₁ ≡ after₂) × (five₁ ≡ five₂) × (closed₁ ≡ closed₂)
+called-determined i a b = (determined-answer i (a .left) (b .left) .0, a .told ∙ sym (b .told), a .told-closed ∙ sym (b .told-closed))
 
 -- hjoltravan_thin_folds: the fold list too
-pub called-with-folds-determined : (i : Input) {engine : Engine} {before after₁ after₂ : Lent} {folds folds₁ folds₂ five₁ five₂ : List ℕ} →
-    CalledWithFolds engine i before after₁ folds folds₁ five₁ → CalledWithFolds engine i before after₂ folds folds₂ five₂ →
-    (after₁ ≡ after₂) × (folds₁ ≡ folds₂) × (five₁ ≡ five₂)
+pub called-with-folds-determined : (i : Input) {engine : Engine} {before after₁ after₂ : Lent} {folds folds₁ folds₂ five₁ five₂ closed₁ closed₂ : List ℕ} →
+    CalledWithFolds engine i before after₁ folds folds₁ five₁ closed₁ → CalledWithFolds engine i before after₂ folds folds₂ five₂ closed₂ →
+    (after₁ ≡ after₂) × (folds₁ ≡ folds₂) × (five₁ ≡ five₂) × (closed₁ ≡ closed₂)
 called-with-folds-determined i a b =
     let same = determined i (a .left .thinned) (b .left .thinned) in
-    (same .0, same .2, a .told ∙ sym (b .told))
+    (same .0, same .2, a .told ∙ sym (b .told), a .told-closed ∙ sym (b .told-closed))
 
 -- hjoltravan_write_scan: the buffer and the three cells
 pub called-to-write-determined : (unit : ℕ) (points : List Float) (faces old : List ℕ) {new₁ new₂ three₁ three₂ : List ℕ} →

@@ -1,5 +1,5 @@
--- What a call through C leaves: the entry's outcome, with the answer as five numbers, and the folds where they are asked for; and the writer's, with
--- the answer as three.
+-- What a call through C leaves: the entry's outcome, with the answer as five numbers and the pairs closed as three, and the folds where they are asked for;
+-- and the writer's, with the answer as three.
 use Prim.Native.Nat.{ℕ}
 use mathlib.Core.Path.{_≡_}
 use mathlib.Core.List.{List, [], _∷_}
@@ -26,15 +26,21 @@ optionsOf unit ratio preserve limited limit = record { unit = unit; ratio = rati
 abbrev pub fiveOf : Answer → List ℕ
 fiveOf r = r .number ∷ r .place ∷ r .points ∷ r .faces ∷ r .folds ∷ []
 
--- the outcome of the input, its answer in the five cells, and how a mesh that is admitted was walked
-pub record Called (engine : Engine) (i : Input) (before after : Lent) (five : List ℕ) : Type 0 where
+-- pairs closed: not linked, squashed, turned over
+abbrev pub byReason : Answer → List ℕ
+byReason r = r .closed .unlinked ∷ r .closed .squashed ∷ r .closed .turned ∷ []
+
+-- the outcome of the input, its answer in the five cells and the three, and how a mesh that is admitted was walked
+pub record Called (engine : Engine) (i : Input) (before after : Lent) (five closed : List ℕ) : Type 0 where
   pub told : five ≡ fiveOf (outcome i .answer)
+  pub told-closed : closed ≡ byReason (outcome i .answer)
   pub left : Answered i before after (outcome i .answer)
   pub made : verdictOf i ≡ Admitted → MadeBy engine i before after (outcome i .answer)
 
 -- the same, with the list of folds that the entry's statement says
-pub record CalledWithFolds (engine : Engine) (i : Input) (before after : Lent) (folds folds' five : List ℕ) : Type 0 where
+pub record CalledWithFolds (engine : Engine) (i : Input) (before after : Lent) (folds folds' five closed : List ℕ) : Type 0 where
   pub told : five ≡ fiveOf (outcome i .answer)
+  pub told-closed : closed ≡ byReason (outcome i .answer)
   pub left : ThinnedBy engine i before after folds folds' (outcome i .answer)
 
 -- a file written: number, place and bytes written in the three cells, and every byte of the buffer

@@ -5,10 +5,11 @@ ghost use Rattle.bits.specs.Narrow.{narrowBits};
 ghost use Rattle.bits.specs.Order.{orderKey};
 ghost use Rattle.meaning.specs.Call.{lent, inputOf};
 ghost use Rattle.walking.specs.declared.Engine.the-variants.{Plain, Heap};
-ghost use Rattle.hjoltravan.specs.Calls.{optionsOf, fiveOf, Called, CalledWithFolds, CalledToWrite};
+ghost use Rattle.hjoltravan.specs.Calls.{optionsOf, fiveOf, byReason, Called, CalledWithFolds, CalledToWrite};
 use meaning::Answer;
 use meaning::Options;
 use scanwriter::Writing;
+use walk::Closings;
 use walking::Engine;
 
 // The options of a call.
@@ -24,11 +25,13 @@ fn options_of(unit: u32, ratio: f32, preserve: bool, limited: bool, limit: f32) 
     }
 }
 
-// An answer as five numbers.
-fn tell(answer: &mut [u32; 5], r: Answer)
-    ensures { λ _. ⌜ now (answer .exit) ≡ fiveOf r ⌝ }
+// An answer as five numbers, and the pairs closed as three.
+fn tell(answer: &mut [u32; 5], closed: &mut [u64; 3], r: Answer)
+    ensures { λ _. ⌜ (now (answer .exit) ≡ fiveOf r) × (now (closed .exit) ≡ byReason r) ⌝ }
 {
     *answer = [r.number, r.place, r.points, r.faces, r.folds];
+    let by_reason: Closings = r.closed;
+    *closed = [by_reason.unlinked, by_reason.squashed, by_reason.turned];
 }
 
 // Thins a mesh by the heap walk.
@@ -48,8 +51,9 @@ pub extern "C" fn hjoltravan_thin(
     work_f32: &mut [f32],
     work_f64: &mut [f64],
     answer: &mut [u32; 5],
+    closed: &mut [u64; 3],
 )
-    ensures { λ _. ⌜ Called Heap (inputOf (now (points .entry)) (now (faces .entry)) (now (margin .entry)) (optionsOf unit ratio preserve limited limit) (lent (now («out_points» .entry)) (now («out_faces» .entry)) (now («work_u32» .entry)) (now («work_f32» .entry)) (now («work_f64» .entry)))) (lent (now («out_points» .entry)) (now («out_faces» .entry)) (now («work_u32» .entry)) (now («work_f32» .entry)) (now («work_f64» .entry))) (lent (now («out_points» .exit)) (now («out_faces» .exit)) (now («work_u32» .exit)) (now («work_f32» .exit)) (now («work_f64» .exit))) (now (answer .exit)) ⌝ }
+    ensures { λ _. ⌜ Called Heap (inputOf (now (points .entry)) (now (faces .entry)) (now (margin .entry)) (optionsOf unit ratio preserve limited limit) (lent (now («out_points» .entry)) (now («out_faces» .entry)) (now («work_u32» .entry)) (now («work_f32» .entry)) (now («work_f64» .entry)))) (lent (now («out_points» .entry)) (now («out_faces» .entry)) (now («work_u32» .entry)) (now («work_f32» .entry)) (now («work_f64» .entry))) (lent (now («out_points» .exit)) (now («out_faces» .exit)) (now («work_u32» .exit)) (now («work_f32» .exit)) (now («work_f64» .exit))) (now (answer .exit)) (now (closed .exit)) ⌝ }
 {
     let options = options_of(unit, ratio, preserve, limited, limit);
     let mut folds = [0u32; 1];
@@ -66,7 +70,7 @@ pub extern "C" fn hjoltravan_thin(
         work_f64,
         &mut folds,
     );
-    tell(answer, r);
+    tell(answer, closed, r);
 }
 
 // Thins a mesh by the plain walk.
@@ -86,8 +90,9 @@ pub extern "C" fn hjoltravan_thin_plain(
     work_f32: &mut [f32],
     work_f64: &mut [f64],
     answer: &mut [u32; 5],
+    closed: &mut [u64; 3],
 )
-    ensures { λ _. ⌜ Called Plain (inputOf (now (points .entry)) (now (faces .entry)) (now (margin .entry)) (optionsOf unit ratio preserve limited limit) (lent (now («out_points» .entry)) (now («out_faces» .entry)) (now («work_u32» .entry)) (now («work_f32» .entry)) (now («work_f64» .entry)))) (lent (now («out_points» .entry)) (now («out_faces» .entry)) (now («work_u32» .entry)) (now («work_f32» .entry)) (now («work_f64» .entry))) (lent (now («out_points» .exit)) (now («out_faces» .exit)) (now («work_u32» .exit)) (now («work_f32» .exit)) (now («work_f64» .exit))) (now (answer .exit)) ⌝ }
+    ensures { λ _. ⌜ Called Plain (inputOf (now (points .entry)) (now (faces .entry)) (now (margin .entry)) (optionsOf unit ratio preserve limited limit) (lent (now («out_points» .entry)) (now («out_faces» .entry)) (now («work_u32» .entry)) (now («work_f32» .entry)) (now («work_f64» .entry)))) (lent (now («out_points» .entry)) (now («out_faces» .entry)) (now («work_u32» .entry)) (now («work_f32» .entry)) (now («work_f64» .entry))) (lent (now («out_points» .exit)) (now («out_faces» .exit)) (now («work_u32» .exit)) (now («work_f32» .exit)) (now («work_f64» .exit))) (now (answer .exit)) (now (closed .exit)) ⌝ }
 {
     let options = options_of(unit, ratio, preserve, limited, limit);
     let mut folds = [0u32; 1];
@@ -104,7 +109,7 @@ pub extern "C" fn hjoltravan_thin_plain(
         work_f64,
         &mut folds,
     );
-    tell(answer, r);
+    tell(answer, closed, r);
 }
 
 // Thins a mesh by the heap walk, and lists its folds.
@@ -125,8 +130,9 @@ pub extern "C" fn hjoltravan_thin_folds(
     work_f64: &mut [f64],
     folds: &mut [u32],
     answer: &mut [u32; 5],
+    closed: &mut [u64; 3],
 )
-    ensures { λ _. ⌜ CalledWithFolds Heap (inputOf (now (points .entry)) (now (faces .entry)) (now (margin .entry)) (optionsOf unit ratio preserve limited limit) (lent (now («out_points» .entry)) (now («out_faces» .entry)) (now («work_u32» .entry)) (now («work_f32» .entry)) (now («work_f64» .entry)))) (lent (now («out_points» .entry)) (now («out_faces» .entry)) (now («work_u32» .entry)) (now («work_f32» .entry)) (now («work_f64» .entry))) (lent (now («out_points» .exit)) (now («out_faces» .exit)) (now («work_u32» .exit)) (now («work_f32» .exit)) (now («work_f64» .exit))) (now (folds .entry)) (now (folds .exit)) (now (answer .exit)) ⌝ }
+    ensures { λ _. ⌜ CalledWithFolds Heap (inputOf (now (points .entry)) (now (faces .entry)) (now (margin .entry)) (optionsOf unit ratio preserve limited limit) (lent (now («out_points» .entry)) (now («out_faces» .entry)) (now («work_u32» .entry)) (now («work_f32» .entry)) (now («work_f64» .entry)))) (lent (now («out_points» .entry)) (now («out_faces» .entry)) (now («work_u32» .entry)) (now («work_f32» .entry)) (now («work_f64» .entry))) (lent (now («out_points» .exit)) (now («out_faces» .exit)) (now («work_u32» .exit)) (now («work_f32» .exit)) (now («work_f64» .exit))) (now (folds .entry)) (now (folds .exit)) (now (answer .exit)) (now (closed .exit)) ⌝ }
 {
     let options = options_of(unit, ratio, preserve, limited, limit);
     let r = thinning::thin(
@@ -142,7 +148,7 @@ pub extern "C" fn hjoltravan_thin_folds(
         work_f64,
         folds,
     );
-    tell(answer, r);
+    tell(answer, closed, r);
 }
 
 // Writes a mesh and its unit as a file.

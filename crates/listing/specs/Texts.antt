@@ -7,7 +7,7 @@ use lib.ListN.{length, getD}
 use lib.Ieee.{Float, binary32, nan, toBits}
 use Rattle.text.specs.Words.{ascii}
 use Rattle.text.specs.Digits.{decimal, hexadecimal}
-use Rattle.text.specs.Lines.{numberThen, wordLine, linesTo}
+use Rattle.text.specs.Lines.{numberThen, longThen, wordLine, linesTo}
 
 -- ---- lines
 
@@ -44,6 +44,9 @@ verticesWord = ascii "vertices "
 abbrev pub facesWord : List ℕ
 facesWord = ascii "faces "
 
+abbrev pub closedWord : List ℕ
+closedWord = ascii "closed "
+
 -- ---- whole texts
 
 -- a refusal: its number and place on one line
@@ -60,6 +63,10 @@ meshText unit folds points faces =
     let v = length points / 3 in
     let f = length faces / 3 in
     headText unit folds v ++ (linesTo (pointLine points) v ++ (wordLine facesWord f ++ linesTo (faceLine faces) f))
+
+-- the line of the pairs closed: not linked, squashed, turned over (document 02, wish 4)
+unfoldable pub closedText : (unlinked squashed turned : ℕ) → List ℕ
+closedText unlinked squashed turned = closedWord ++ (longThen unlinked 32 ++ (longThen squashed 32 ++ longThen turned 10))
 
 -- ---- the room that is asked for
 

@@ -4,7 +4,7 @@ ghost use Prim.Native.Nat.{_+_, _*_, _/_, _≤_, _<_};
 ghost use lib.ListN.{length};
 ghost use Rattle.text.specs.Lines.{linesTo};
 ghost use Rattle.lists.specs.Puts.{Put};
-ghost use Rattle.listing.specs.Texts.{floatThen, pointLine, faceLine, headText, refusalText, meshText, meshRoom, refusalFits, meshFits};
+ghost use Rattle.listing.specs.Texts.{floatThen, pointLine, faceLine, headText, refusalText, closedText, meshText, meshRoom, refusalFits, meshFits};
 ghost use Rattle.listing.specs.Written.{Prints};
 ghost use Rattle.listing.specs.Contracts.{MeshAsked};
 use bits::patterns::bits_of_f32;
@@ -12,6 +12,7 @@ use text::put_byte;
 use text::put_decimal;
 use text::put_hexadecimal;
 use text::put_line;
+use text::put_long_number;
 use text::put_number;
 use text::put_word;
 
@@ -117,6 +118,17 @@ fn mesh_fits(room: usize, v: usize, f: usize) -> bool
         return false;
     }
     27 * v + 33 * f + 88 <= room
+}
+
+// Writes the line of the pairs closed: not linked, squashed, turned over.
+pub fn put_closed(out: &mut [u8], at: usize, unlinked: u64, squashed: u64, turned: u64) -> usize
+    requires { ⌜ at + 70 ≤ length (now out) ⌝ }
+    ensures { λ r. ⌜ Put 70 (closedText unlinked squashed turned) at (now (out .entry)) (now (out .exit)) r ⌝ }
+{
+    let first = put_word(out, at, b"closed ");
+    let second = put_long_number(out, first, unlinked, b' ');
+    let third = put_long_number(out, second, squashed, b' ');
+    put_long_number(out, third, turned, b'\n')
 }
 
 // Prints a refusal: one line with its number and place.

@@ -6,7 +6,7 @@ use native.Mathlib.Omega.{arith}
 use mathlib.Core.Path.{_≡_, refl, sym, ap, _∙_}
 use mathlib.Core.Logic.{_≢_, ⊎-elim}
 use mathlib.Core.List.{List, [], _∷_, map}
-use mathlib.Core.Bool.{Bool, true, _&&_, cond}
+use mathlib.Core.Bool.{Bool, true, false, _&&_, cond, and-true}
 use mathlib.Mathlib.Data.Bool.Basic.{and-elim-left, and-elim-right, and-intro}
 use lib.Dec.{ltb, eqb}
 use lib.Arith.{lt-of-le-ne}
@@ -16,7 +16,7 @@ use borrow.Author.Tests.{lt-ltb, le-ltb, ne-eqb, ltb-true, ltb-false, eqb-true, 
 use Rattle.lists.specs.Lists.{sum, count, those, every, below}
 use Rattle.lists.proofs.TestLaws.{by-test, flag-le}
 use Rattle.lists.proofs.SumLaws.{sum-append, sum-zero, sum-length}
-use Rattle.lists.proofs.EveryLaws.{every-at, every-from, every-implies, count-most, map-those-same}
+use Rattle.lists.proofs.EveryLaws.{every-at, every-from, every-implies, count-most, those-all, those-both, map-those-same}
 
 pub length-below : (n : ℕ) → length (below n) ≡ n
 unfolding below
@@ -51,6 +51,10 @@ every-implies-below n test other implies xs =
 -- ---- sums
 
 -- one number more
+flag-most : (b : Bool) (n : ℕ) → cond b n 0 ≤ n
+flag-most true n = omega arith
+flag-most false n = omega arith
+
 pub sum-below : (g : ℕ → ℕ) (n : ℕ) → sum g (below (suc n)) ≡ sum g (below n) + g n
 unfolding sum below
 sum-below g n = rw (sum-append g (below n) (n ∷ [])) (omega arith)
@@ -99,6 +103,11 @@ pub sum-single : (g : ℕ → ℕ) (c n : ℕ) → c < n → sum (λ k. cond (eq
 sum-single g c n l = sum-pick g c n ∙ rw (lt-ltb c n l)
 
 -- each number below n is there once
+-- no number gives more than all together
+pub term-le : (g : ℕ → ℕ) (c n : ℕ) → c < n → g c ≤ sum g (below n)
+term-le g c n l =
+    omega (arith, sum-single g c n l, sum-most (λ k. cond (eqb k c) (g k) 0) g n (λ k m. flag-most (eqb k c) (g k)))
+
 pub count-below : (x n : ℕ) → count (eqb x) (below n) ≡ cond (ltb x n) 1 0
 unfolding sum below
 count-below x zero = rw (le-ltb x 0 zero-le)
@@ -198,6 +207,11 @@ pub kept-same : {A : Type 0} (g h : ℕ → A) (test other : ℕ → Bool) (n : 
     ((k : ℕ) → k < n → test k ≡ other k) → ((k : ℕ) → k < n → g k ≡ h k) → map g (those test (below n)) ≡ map h (those other (below n))
 kept-same g h test other n tests rules =
     map-those-same g h test other (λ k. ltb k n) (λ k l. rules k (ltb-true k n l)) (λ k l. tests k (ltb-true k n l)) (below n) (all-below n)
+
+pub those-same-below : (test other : ℕ → Bool) (n : ℕ) → ((k : ℕ) → k < n → test k ≡ other k) → those test (below n) ≡ those other (below n)
+those-same-below test other n tests =
+    those-both (λ k. true) other test (λ k. ltb k n) (λ k l. tests k (ltb-true k n l) ∙ sym (and-true (other k))) (below n) (all-below n)
+    ∙ those-all (those other (below n))
 
 -- what each number below n gives passes, where every one does, and back
 pub every-each : {A : Type 0} (test : A → Bool) (h : ℕ → A) (n : ℕ) → every test (map h (below n)) ≡ true → (k : ℕ) → k < n → test (h k) ≡ true

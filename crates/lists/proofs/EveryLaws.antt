@@ -10,7 +10,7 @@ use mathlib.Mathlib.Data.Bool.Basic.{and-elim-left, and-elim-right, and-intro, o
 use lib.Dec.{ltb, eqb}
 use lib.ListN.{length, getD, set}
 use borrow.Author.Tests.{lt-ltb, eq-eqb, ne-eqb}
-use Rattle.lists.specs.Lists.{sum, count, those, every, some, without}
+use Rattle.lists.specs.Lists.{sum, count, those, every, some, without, beside}
 use Rattle.lists.proofs.TestLaws.{by-test, false-of, flag-le, flag-mono, neither-of}
 use Rattle.lists.proofs.SumLaws.{sum-those, sum-same, sum-mono, sum-zero, sum-length, sum-times, sum-without}
 
@@ -206,6 +206,18 @@ module _ {A : Type 0} where
       let rest = those-append test xs ys in
       by-test (test x) (λ e. rw (e, rest)) (λ e. rw (e, rest))
 
+  -- those that pass a second test of those that pass a first, by one test where the first passes
+  pub those-both : (test one both good : A → Bool) → ((x : A) → good x ≡ true → both x ≡ (one x && test x)) →
+      (xs : List A) → every good xs ≡ true → those both xs ≡ those test (those one xs)
+  unfolding those
+  those-both test one both good tests [] all = refl
+  those-both test one both good tests (x ∷ xs) all =
+      let here = tests x (every-head good x xs all) in
+      let rest = those-both test one both good tests xs (every-tail good x xs all) in
+      by-test (one x)
+      (λ o. by-test (test x) (λ t. rw (here, o, t, rest)) (λ t. rw (here, o, t, rest)))
+      (λ o. rw (here, o, rest))
+
   pub those-next : (test : A → Bool) (xs : List A) {x y : A} {b : Bool} → x ≡ y → test y ≡ b →
       those test (xs ++ (x ∷ [])) ≡ those test xs ++ cond b (y ∷ []) []
   unfolding those
@@ -309,3 +321,9 @@ every-kept test h passed good step (s ∷ xs) all =
     let here = and-elim-left (good s) (every good xs) all in
     let rest = every-kept test h passed good step xs (and-elim-right (good s) (every good xs) all) in
     by-test (passed s) (λ e. rw e (and-intro (step s here e) rest)) (λ e. rw e rest)
+
+-- those that stand beside what a rule gives of them, where that passes
+pub beside-map : {A B : Type 0} (test : B → Bool) (rule : A → B) (xs : List A) → beside test (map rule xs) xs ≡ those (λ x. test (rule x)) xs
+unfolding beside those
+beside-map test rule [] = refl
+beside-map test rule (x ∷ xs) = rw (beside-map test rule xs)

@@ -38,6 +38,12 @@ module _ {A : Type 0} where
   pub record SameBag (xs ys : List A) : Type 0 where
     pub sums : (g : A → ℕ) → sum g xs ≡ sum g ys
 
+-- those of a second list that stand beside one of the first that passes
+unfoldable pub beside : {A B : Type 0} → (A → Bool) → List A → List B → List B
+beside test [] ys = []
+beside test (x ∷ xs) [] = []
+beside test (x ∷ xs) (y ∷ ys) = cond (test x) (y ∷ beside test xs ys) (beside test xs ys)
+
 -- 0, 1, .. up to the number before n
 unfoldable pub below : ℕ → List ℕ
 below zero = []

@@ -1,6 +1,6 @@
 -- Document 01's arithmetic, as the rules that the walk goes by.
 use Prim.Native.Nat.{ℕ, _+_, _-_, _^_, suc}
-use mathlib.Core.Bool.{Bool, _&&_}
+use mathlib.Core.Bool.{Bool, not}
 use lib.IntN.{ℤ, pos, negsuc}
 use lib.Ieee.{Float, binary32, mul, lt, ofBits}
 use Rattle.bits.specs.Order.{floatKey}
@@ -26,15 +26,20 @@ tiny = ofBits binary32 0x3586_37bd
 abbrev pub hundredth : Float
 hundredth = ofBits binary32 0x3c23_d70a
 
--- with f32 norms b before and a after: `a > 1e-6*b` and dot `> 0.01*b*a`
-abbrev pub fairNormals : Point → Point → Bool
-fairNormals before after =
-    lt (mul binary32 tiny (norm before)) (norm after)
-    && lt (mul binary32 (mul binary32 hundredth (norm before)) (norm after)) (dot before after)
+-- of a face's normals before and after, with f32 norms b and a: squashed where not `a > 1e-6*b`. A norm that is no number passes no test.
+abbrev pub squashedNormals : Point → Point → Bool
+squashedNormals before after = not (lt (mul binary32 tiny (norm before)) (norm after))
 
--- a face's three points before a fold and after it
-unfoldable pub fairPoints : Point → Point → Point → Point → Point → Point → Bool
-fairPoints a b c a' b' c' = fairNormals (normal a b c) (normal a' b' c')
+-- and turned over where not dot `> 0.01*b*a`
+abbrev pub turnedNormals : Point → Point → Bool
+turnedNormals before after = not (lt (mul binary32 (mul binary32 hundredth (norm before)) (norm after)) (dot before after))
+
+-- of a face's three points before a fold and after it
+unfoldable pub squashedPoints : Point → Point → Point → Point → Point → Point → Bool
+squashedPoints a b c a' b' c' = squashedNormals (normal a b c) (normal a' b' c')
+
+unfoldable pub turnedPoints : Point → Point → Point → Point → Point → Point → Bool
+turnedPoints a b c a' b' c' = turnedNormals (normal a b c) (normal a' b' c')
 
 -- what keep carries after a fold: the pair's place and quadric, and its own kind
 unfoldable pub mergedVertex : Float → Vertex → Vertex → Vertex
@@ -42,12 +47,13 @@ mergedVertex bound keep remove = record { point = pairPlace bound keep remove; q
 
 -- the rules for a length limit and a bound on a coordinate's size
 unfoldable pub rulesOf : Limit → Float → Rules Vertex
-unfolding fairPoints mergedVertex
+unfolding squashedPoints turnedPoints mergedVertex
 rulesOf limit bound =
     record {
       rank = λ keep remove. fromLowest (floatKey (pairCost bound keep remove));
       eligible = eligible limit bound;
       merged = mergedVertex bound;
-      fair = λ a b c a' b' c'. fairPoints (a .point) (b .point) (c .point) (a' .point) (b' .point) (c' .point);
+      squashed = λ a b c a' b' c'. squashedPoints (a .point) (b .point) (c .point) (a' .point) (b' .point) (c' .point);
+      turned = λ a b c a' b' c'. turnedPoints (a .point) (b .point) (c .point) (a' .point) (b' .point) (c' .point);
       blank = record { point = record { x = nought; y = nought; z = nought }; quadric = zeroQuadric; kind = Free };
     }

@@ -22,19 +22,21 @@ use Rattle.placement.specs.Pairs.{pairQuadric, pairLength, pairPlace, pairCost,
 use Rattle.placement.specs.Places.{solved, stands, tested, cheaper, fallback, placeOf}
 use Rattle.walk.specs.declared.Pair.{Pair}
 use Rattle.lists.specs.Lists as lists
-use Rattle.lists.specs.Lists.{those, every, some, without, below, firstOf}
+use Rattle.lists.specs.Lists.{those, beside, every, some, without, below, firstOf}
 use Rattle.walk.specs.Faces.{borderPoint}
-use Rattle.walk.specs.Fold.{foldedFaces, foldedMesh}
-use Rattle.walk.specs.FoldTest.{fairFace, allowed}
+use Rattle.walk.specs.Fold.{foldedFaces, leftNumbers, foldedMesh}
+use Rattle.walk.specs.declared.Closings.{Closings}
+use Rattle.walk.specs.FoldTest.{harm, orElse, firstHarm, faceTest, foldTest}
 use Rattle.walk.specs.Pairs.{pairOf, pairsBelow, eligiblePair, order, least, opened}
-use Rattle.walk.specs.Walk.{walk, foldList, foldOf, budget, started, tried, chosen, answer, after}
+use Rattle.walk.specs.Walk.{walk, collected, foldOf, reasonOf, toldBy, budget, started, tried, chosen, answer, after}
+use Rattle.walk.specs.Closings.{closingsOf}
 use Rattle.walk.specs.Output.{used, placeIn, renumbered, numbersOf}
-use Rattle.meaning.specs.Arithmetic.{fairPoints, mergedVertex, rulesOf}
+use Rattle.meaning.specs.Arithmetic.{squashedPoints, turnedPoints, mergedVertex, rulesOf}
 use Rattle.meaning.specs.Start.{gathered, startKind, fixedCount, startMesh}
 use Rattle.meaning.specs.Input.{Input}
 use Rattle.meaning.specs.Answers.{faceVerdict, marginVerdict, contentsVerdict, verdictOf}
 use Rattle.meaning.specs.declared.Answer.{Answer}
-use Rattle.meaning.specs.Outcome.{rulesIn, startOf, targetOf, lastMesh, foldsWalked, partsIn, refusal, Outcome, outcomeBy, outcome, foldsBy, foldsOf, pairNumbers}
+use Rattle.meaning.specs.Outcome.{rulesIn, startOf, targetOf, lastMesh, foldsWalked, closedWalked, partsIn, noneClosed, withoutMesh, refusal, Outcome, outcomeBy, outcome, foldsBy, foldsOf, pairNumbers}
 
 -- a mesh in a unit, its points by their bits, with a margin, a ratio by its bits, preserve on or off and a limit, and room for ten points and ten faces
 abbrev measured : (unit : ℕ) (points faces margin : List ℕ) → ℕ → Bool → Limit → Input
@@ -83,9 +85,13 @@ ridge unit =
     (2 ∷ 3 ∷ 4 ∷ 5 ∷ 6 ∷ [])
     0x3f00_0000 false Unlimited
 
--- a call that is answered with 0: the points and faces written, and the folds made
-abbrev done : ℕ → ℕ → ℕ → Answer
-done points faces folds = record { number = 0; place = 0; points = points; faces = faces; folds = folds }
+-- pairs closed: not linked, squashed, turned over
+abbrev closing : ℕ → ℕ → ℕ → Closings
+closing unlinked squashed turned = record { unlinked = unlinked; squashed = squashed; turned = turned }
+
+-- a call that is answered with 0: the points and faces written, the folds made, and the pairs closed
+abbrev done : ℕ → ℕ → ℕ → Closings → Answer
+done points faces folds closed = record { number = 0; place = 0; points = points; faces = faces; folds = folds; closed = closed }
 
 -- What comes out: the answer, the parts of the points written, by their bits, the numbers of the faces written, and the folds made, keep and remove of
 -- each.
@@ -108,7 +114,7 @@ pub record Example : Type 0 where
 abbrev joined : (x y z : ℕ) → Shown
 joined x y z =
     record {
-      answer = done 5 2 1;
+      answer = done 5 2 1 noneClosed;
       points =
           x ∷ y ∷ z
           ∷ 0x447f_0000 ∷ 0x4080_0000 ∷ 0x4040_0000
@@ -127,7 +133,7 @@ examples =
     record {
       input = square 0x3f00_0000 false Unlimited;
       out = record {
-        answer = done 4 2 1;
+        answer = done 4 2 1 (closing 0 1 0);
         points = 0x4000_0000 ∷ 0 ∷ 0 ∷ 0x4000_0000 ∷ 0x4000_0000 ∷ 0 ∷ 0 ∷ 0 ∷ 0 ∷ 0 ∷ 0x4000_0000 ∷ 0 ∷ [];
         faces = 0 ∷ 1 ∷ 2 ∷ 1 ∷ 3 ∷ 2 ∷ [];
         folds = 0 ∷ 4 ∷ [];
@@ -138,33 +144,33 @@ examples =
     -- the same with preserve off and limit 1.0
     ∷ record { input = square 0x3f00_0000 false (AtMost (ofBits binary32 0x3f80_0000)); out = record { answer = refusal 11 0; points = []; faces = []; folds = [] } }
     -- one triangle at ratio 1: an empty mesh
-    ∷ record { input = triangle [] 0x3f80_0000 false Unlimited; out = record { answer = done 0 0 1; points = []; faces = []; folds = 0 ∷ 1 ∷ [] } }
+    ∷ record { input = triangle [] 0x3f80_0000 false Unlimited; out = record { answer = done 0 0 1 noneClosed; points = []; faces = []; folds = 0 ∷ 1 ∷ [] } }
     -- the square at ratio 2^-25: nothing folds, and points are numbered by first use
     ∷ record {
       input = square 0x3300_0000 false Unlimited;
       out = record {
-        answer = done 5 4 0;
+        answer = done 5 4 0 noneClosed;
         points = 0 ∷ 0 ∷ 0 ∷ 0x4000_0000 ∷ 0 ∷ 0 ∷ 0x3f80_0000 ∷ 0x3f80_0000 ∷ 0 ∷ 0x4000_0000 ∷ 0x4000_0000 ∷ 0 ∷ 0 ∷ 0x4000_0000 ∷ 0 ∷ [];
         faces = 0 ∷ 1 ∷ 2 ∷ 1 ∷ 3 ∷ 2 ∷ 3 ∷ 4 ∷ 2 ∷ 4 ∷ 0 ∷ 2 ∷ [];
         folds = [];
       };
     }
-    -- the first example with the point 0 held: (1,4) folds in place of (0,4)
+    -- the first example with the point 0 held: (1,2) is closed, and (1,4) folds in place of (0,4)
     ∷ record {
       input = held (0 ∷ []) 0x3f00_0000 false Unlimited;
       out = record {
-        answer = done 4 2 1;
+        answer = done 4 2 1 (closing 0 1 0);
         points = 0x4000_0000 ∷ 0x4000_0000 ∷ 0 ∷ 0 ∷ 0x4000_0000 ∷ 0 ∷ 0x4000_0000 ∷ 0 ∷ 0 ∷ 0 ∷ 0 ∷ 0 ∷ [];
         faces = 0 ∷ 1 ∷ 2 ∷ 1 ∷ 3 ∷ 2 ∷ [];
         folds = 1 ∷ 4 ∷ [];
       };
     }
     -- with the point 4 held no fold is allowed
-    ∷ record { input = held (4 ∷ []) 0x3f00_0000 false Unlimited; out = record { answer = refusal 10 1; points = []; faces = []; folds = [] } }
+    ∷ record { input = held (4 ∷ []) 0x3f00_0000 false Unlimited; out = record { answer = withoutMesh 10 1 (closing 0 3 0); points = []; faces = []; folds = [] } }
     -- with preserve on: a border point that the margin names counts once
     ∷ record { input = held (0 ∷ 4 ∷ []) 0x3f00_0000 true Unlimited; out = record { answer = refusal 10 5; points = []; faces = []; folds = [] } }
     -- the triangle with the point 2 held: its one face is folded away, and the point is used no more
-    ∷ record { input = triangle (2 ∷ []) 0x3f80_0000 false Unlimited; out = record { answer = done 0 0 1; points = []; faces = []; folds = 0 ∷ 1 ∷ [] } }
+    ∷ record { input = triangle (2 ∷ []) 0x3f80_0000 false Unlimited; out = record { answer = done 0 0 1 noneClosed; points = []; faces = []; folds = 0 ∷ 1 ∷ [] } }
     -- the ridge's planes meet at x = 1026: in millimetres, whose bound is 1,024, the ends' middle is taken; in micrometres the solved point is
     ∷ record { input = ridge 1; out = joined 0x4480_0000 0 0 }
     ∷ record { input = ridge 2; out = joined 0x4480_4000 0x8000_0000 0 }
@@ -172,7 +178,7 @@ examples =
 
 -- they come out
 pub examples-hold : map (λ e. shown (outcome (e .input)) (foldsOf (e .input))) examples ≡ map (λ e. e .out) examples
-unfolding outcome outcomeBy pairNumbers foldsOf foldsBy partsIn foldsWalked lastMesh targetOf startOf startMesh fixedCount startKind gathered rulesOf mergedVertex fairPoints numbersOf renumbered placeIn used foldList walk after answer chosen tried opened started least order budget foldOf pairsBelow foldedMesh allowed fairFace foldedFaces borderPoint without those every some below lists.sum placeOf fallback cheaper tested stands solved eligible pairCost pairPlace pairLength pairQuadric inverse errorAt planeOf unitNormal allFinite normal norm root rootBits finiteRoot bitsRoot.largest halfway fourfold steps floatKey orderKey narrowed cut target flatMap verdictOf contentsVerdict faceVerdict marginVerdict firstOf span climb size odd units round neg ieee.sum add sub mul div lt eq le ofInt toUnsigned isNan ofFields ofBits toBits
+unfolding outcome outcomeBy pairNumbers foldsOf foldsBy partsIn foldsWalked lastMesh targetOf startOf startMesh fixedCount startKind gathered rulesOf mergedVertex squashedPoints turnedPoints numbersOf renumbered placeIn used closedWalked closingsOf collected walk after answer chosen tried toldBy opened started least order budget foldOf reasonOf pairsBelow foldedMesh leftNumbers foldTest faceTest firstHarm orElse harm foldedFaces borderPoint without those beside every some below lists.sum placeOf fallback cheaper tested stands solved eligible pairCost pairPlace pairLength pairQuadric inverse errorAt planeOf unitNormal allFinite normal norm root rootBits finiteRoot bitsRoot.largest halfway fourfold steps floatKey orderKey narrowed cut target flatMap verdictOf contentsVerdict faceVerdict marginVerdict firstOf span climb size odd units round neg ieee.sum add sub mul div lt eq le ofInt toUnsigned isNan ofFields ofBits toBits
 examples-hold = refl
 
 -- ---- the kinds of points

@@ -1,4 +1,4 @@
--- The answer of a call and what comes out, for any input (document 01, "Answer numbers" and "Pairs, folds, ends"; document 02, wishes 2 and 3).
+-- The answer of a call and what comes out, for any input (document 01, "Answer numbers" and "Pairs, folds, ends"; document 02, wishes 2 to 4).
 use Prim.Native.Nat.{ℕ}
 use mathlib.Core.List.{List, [], _∷_}
 use mathlib.Core.Bool.{Bool, true, false, _&&_, cond}
@@ -9,7 +9,9 @@ use Rattle.bits.specs.Cut.{target}
 use Rattle.placement.specs.declared.pair.Vertex.{Vertex}
 use Rattle.walk.specs.declared.Pair.{Pair}
 use Rattle.walk.specs.Faces.{facesOf, Rules, Mesh}
-use Rattle.walk.specs.Walk.{walk, foldList, State, started, budget, plainMachine}
+use Rattle.walk.specs.declared.Closings.{Closings}
+use Rattle.walk.specs.Walk.{walk, foldList, reasonList, State, started, budget, plainMachine}
+use Rattle.walk.specs.Closings.{closingsOf}
 use Rattle.walk.specs.Output.{used, renumbered, numbersOf}
 use Rattle.meaning.specs.Start.{fixedCount, startMesh}
 use Rattle.meaning.specs.Arithmetic.{rulesOf}
@@ -41,6 +43,10 @@ lastMesh i = walk (plainMachine (rulesIn i) (targetOf i)) (budget (facesIn i) (s
 unfoldable pub foldsWalked : Input → List Pair
 foldsWalked i = foldList (plainMachine (rulesIn i) (targetOf i)) (budget (facesIn i) (startOf i)) (startOf i)
 
+-- how many pairs were closed for each reason
+unfoldable pub closedWalked : Input → Closings
+closedWalked i = closingsOf (reasonList (plainMachine (rulesIn i) (targetOf i)) (budget (facesIn i) (startOf i)) (startOf i))
+
 -- no fold was made, and there are more faces than the target
 abbrev pub stuck : Input → Bool
 stuck i = eqb (length (foldsWalked i)) 0 && ltb (targetOf i) (facesIn i)
@@ -64,20 +70,35 @@ pub record Outcome : Type 0 where
   pub faces : List ℕ
   pub worked : Bool
 
--- a refusal has zeros in the last three
-abbrev pub refusal : ℕ → ℕ → Answer
-refusal number place = record { number = number; place = place; points = 0; faces = 0; folds = 0 }
+-- an answer without a mesh has zeros for it
+abbrev pub withoutMesh : ℕ → ℕ → Closings → Answer
+withoutMesh number place closed = record { number = number; place = place; points = 0; faces = 0; folds = 0; closed = closed }
 
--- 10 where points are fixed, and their number is its place; else 11
-abbrev pub stuckAnswer : ℕ → Answer
-stuckAnswer fixed = cond (ltb 0 fixed) (refusal 10 fixed) (refusal 11 0)
+-- without a walk no pair is closed
+abbrev pub noneClosed : Closings
+noneClosed = record { unlinked = 0; squashed = 0; turned = 0 }
+
+abbrev pub refusal : ℕ → ℕ → Answer
+refusal number place = withoutMesh number place noneClosed
+
+-- 10 where points are fixed, and their number is its place; else 11. Both say why pairs were closed
+abbrev pub stuckAnswer : ℕ → Closings → Answer
+stuckAnswer fixed closed = cond (ltb 0 fixed) (withoutMesh 10 fixed closed) (withoutMesh 11 0 closed)
 
 -- live faces in face order, points numbered by first use
 abbrev pub thinnedOutcome : Input → Outcome
 thinnedOutcome i =
     let faces = lastMesh i .faces in
     record {
-      answer = record { number = 0; place = 0; points = length (used [] faces); faces = length faces; folds = length (foldsWalked i) };
+      answer =
+          record {
+            number = 0;
+            place = 0;
+            points = length (used [] faces);
+            faces = length faces;
+            folds = length (foldsWalked i);
+            closed = closedWalked i;
+          };
       points = partsIn (rulesIn i) (lastMesh i) (used [] faces);
       faces = numbersOf (renumbered faces);
       worked = true;
@@ -87,10 +108,15 @@ thinnedOutcome i =
 unfoldable pub outcomeBy : Verdict → Input → Outcome
 outcomeBy (Refused number place) i = record { answer = refusal number place; points = []; faces = []; worked = false }
 outcomeBy Copied i =
-    record { answer = record { number = 0; place = 0; points = pointsIn i; faces = facesIn i; folds = 0 }; points = i .points; faces = i .faces; worked = true }
+    record {
+      answer = record { number = 0; place = 0; points = pointsIn i; faces = facesIn i; folds = 0; closed = noneClosed };
+      points = i .points;
+      faces = i .faces;
+      worked = true;
+    }
 outcomeBy Admitted i =
     cond (stuck i)
-    (record { answer = stuckAnswer (fixedIn i); points = []; faces = []; worked = true })
+    (record { answer = stuckAnswer (fixedIn i) (closedWalked i); points = []; faces = []; worked = true })
     (thinnedOutcome i)
 
 -- the outcome of an input

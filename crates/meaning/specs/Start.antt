@@ -44,8 +44,8 @@ abbrev pub startVertex : List Float → List Face → ℕ → Bool → (margin :
 startVertex points faces v preserve margin x =
     record { point = pointAt points x; quadric = gathered points x zeroQuadric faces; kind = startKind v faces preserve margin x }
 
--- the mesh at the start, of v points and f faces
+-- the mesh at the start, of v points and f faces, numbered from 0
 unfoldable pub startMesh : ℕ → ℕ → List Float → List ℕ → Bool → (margin : List ℕ) → Mesh Vertex
 unfolding startKind below
 startMesh v f points faces preserve margin =
-    record { points = map (startVertex points (facesOf f faces) v preserve margin) (below v); faces = facesOf f faces }
+    record { points = map (startVertex points (facesOf f faces) v preserve margin) (below v); faces = facesOf f faces; numbers = below f }

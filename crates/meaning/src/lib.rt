@@ -1,5 +1,6 @@
 // Document 01 as definitions: what a call is given, what it answers and what it leaves. In code it has only the values that go in and out.
 use placement::Limit;
+use walk::Closings;
 
 // How a mesh is thinned: by which part, with border points held or not, and up to which length of a pair; and in which unit it is, by a
 // number that may be no unit's, which 24 refuses.
@@ -26,11 +27,12 @@ pub enum Verdict {
     Admitted,
 }
 
-// What a call answers: a number and its place, and on 0 the points and faces written and the folds made.
+// What a call answers: a number and its place; on 0 the points and faces written and the folds made; and on 0, 10 and 11 the pairs closed by reason.
 pub struct Answer {
     pub number: u32,
     pub place: u32,
     pub points: u32,
     pub faces: u32,
     pub folds: u32,
+    pub closed: Closings,
 }

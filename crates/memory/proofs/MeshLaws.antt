@@ -14,17 +14,18 @@ use Rattle.walk.specs.declared.Face.{Face}
 use Rattle.lists.specs.Lists.{below}
 use Rattle.lists.specs.Frames.{But}
 use Rattle.walk.specs.Faces.{faceAt, Mesh}
-use Rattle.memory.specs.Memory.{kind, lives, liveFaces}
+use Rattle.memory.specs.Memory.{kind, lives, liveFaces, liveNumbers}
 use Rattle.memory.specs.Layout.{kindsFrom, marksFrom}
 use Rattle.memory.specs.Points.{vertexAt, withPoint, withQuadric, meshOf}
 use Rattle.memory.proofs.PointLaws.{point-stored, quadric-stored}
-use Rattle.lists.proofs.BelowLaws.{length-each, getD-each, each-same, each-moved, kept-same}
+use Rattle.lists.proofs.BelowLaws.{length-each, getD-each, each-same, each-moved, kept-same, those-same-below}
 use Rattle.memory.proofs.FrameLaws.{lives-but, face-but}
 
--- two meshes with the same points and the same faces
-pub mesh-of-parts : (points points' : List Vertex) (faces faces' : List Face) → points ≡ points' → faces ≡ faces' →
-    _≡_ {A = Mesh Vertex} (record { points = points; faces = faces }) (record { points = points'; faces = faces' })
-mesh-of-parts points points' faces faces' e d = rw (e, d)
+-- two meshes with the same points and the same faces, under the same numbers
+pub mesh-of-parts : (points points' : List Vertex) (faces faces' : List Face) (numbers numbers' : List ℕ) →
+    points ≡ points' → faces ≡ faces' → numbers ≡ numbers' →
+    _≡_ {A = Mesh Vertex} (record { points = points; faces = faces; numbers = numbers }) (record { points = points'; faces = faces'; numbers = numbers' })
+mesh-of-parts points points' faces faces' numbers numbers' e d n = rw (e, d, n)
 
 module _ (v f : ℕ) (w : List ℕ) (p q : List Float) where
   -- the mesh has v points
@@ -48,12 +49,17 @@ module _ (v f : ℕ) (w : List ℕ) (p q : List Float) where
       rw (at-p .back (omega arith), at-q .back (omega arith)) at
       (each-moved (vertexAt v f w p q) moved v keep here (λ x other. rw (at-p .other x other, at-q .other x other)))
 
--- the mesh hangs on the u32 memory only through the kinds of the v points and the live faces
+-- the mesh hangs on the u32 memory only through the kinds of the v points and the live faces with their numbers
 pub mesh-same : (v f : ℕ) (w w' : List ℕ) (p q : List Float) →
-    ((x : ℕ) → x < v → kind v f w' x ≡ kind v f w x) → liveFaces f w' ≡ liveFaces f w → meshOf v f w' p q ≡ meshOf v f w p q
+    ((x : ℕ) → x < v → kind v f w' x ≡ kind v f w x) → liveFaces f w' ≡ liveFaces f w → liveNumbers f w' ≡ liveNumbers f w →
+    meshOf v f w' p q ≡ meshOf v f w p q
 unfolding meshOf
-mesh-same v f w w' p q kinds faces =
-    mesh-of-parts _ _ _ _ (each-same (vertexAt v f w p q) (vertexAt v f w' p q) v (λ x h. rw (kinds x h))) faces
+mesh-same v f w w' p q kinds faces numbers =
+    mesh-of-parts _ _ _ _ _ _ (each-same (vertexAt v f w p q) (vertexAt v f w' p q) v (λ x h. rw (kinds x h))) faces numbers
+
+-- a change above the flags leaves the numbers of the live faces
+pub live-numbers-but : (f : ℕ) {lo hi : ℕ} {w w' : List ℕ} → But lo hi w w' → 4 * f ≤ lo → liveNumbers f w' ≡ liveNumbers f w
+live-numbers-but f {lo} {hi} {w} {w'} but above = those-same-below (lives f w') (lives f w) f (lives-but but above)
 
 -- and those on the cells below the marks; so does what a point carries, on its kind
 pub vertex-but : (v f : ℕ) {lo hi : ℕ} {w w' : List ℕ} (p q : List Float) → But lo hi w w' → marksFrom v f ≤ lo → (x : ℕ) → x < v →
@@ -65,3 +71,4 @@ unfolding liveFaces
 mesh-but v f {lo} {hi} {w} {w'} p q but above =
     mesh-same v f w w' p q (λ x l. but .under (kindsFrom v f + x) (omega arith))
     (kept-same (faceAt w') (faceAt w) (lives f w') (lives f w) f (lives-but but (omega arith)) (face-but but (omega arith)))
+    (live-numbers-but f but (omega arith))

@@ -39,7 +39,7 @@ aroundIn v f w n = stretch w (aroundFrom v f) n
 
 -- ---- what they say
 
--- whether the face in a slot is live, and the live faces in face order
+-- whether the face in a slot is live. A face's slot is its number in the input.
 abbrev pub lives : ℕ → List ℕ → ℕ → Bool
 lives f w k = eqb (live f w k) 1
 
@@ -47,9 +47,13 @@ lives f w k = eqb (live f w k) 1
 abbrev pub liveAt : ℕ → List ℕ → ℕ → ℕ → Bool
 liveAt f w x k = lives f w k && holds x (faceAt w k)
 
+-- the numbers of the live faces, and these faces, in face order
+abbrev pub liveNumbers : ℕ → List ℕ → List ℕ
+liveNumbers f w = those (lives f w) (below f)
+
 unfoldable pub liveFaces : ℕ → List ℕ → List Face
 unfolding those below
-liveFaces f w = map (faceAt w) (those (lives f w) (below f))
+liveFaces f w = map (faceAt w) (liveNumbers f w)
 
 -- ---- what the functions ask
 

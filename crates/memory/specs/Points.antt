@@ -8,9 +8,9 @@ use Rattle.geometry.specs.declared.Point.{Point}
 use Rattle.geometry.specs.declared.Quadric.{Quadric}
 use Rattle.placement.specs.declared.pair.Vertex.{Vertex}
 use Rattle.placement.specs.Choices.{kindOf}
-use Rattle.lists.specs.Lists.{below}
+use Rattle.lists.specs.Lists.{those, below}
 use Rattle.walk.specs.Faces.{Mesh}
-use Rattle.memory.specs.Memory.{kind, liveFaces}
+use Rattle.memory.specs.Memory.{kind, liveFaces, liveNumbers}
 use Rattle.meaning.specs.Input.{pointAt}
 
 -- the quadric whose parts stand from 10x on
@@ -51,10 +51,10 @@ withPoints v points p = take (3 * v) points ++ drop (3 * v) p
 abbrev pub vertexAt : ℕ → ℕ → List ℕ → List Float → List Float → ℕ → Vertex
 vertexAt v f w p q x = record { point = pointAt p x; quadric = quadricAt q x; kind = kindOf (kind v f w x) }
 
--- the mesh in memory: the v points, and the live faces in face order
+-- the mesh in memory: the v points, and the live faces in face order, with their numbers
 unfoldable pub meshOf : ℕ → ℕ → List ℕ → List Float → List Float → Mesh Vertex
-unfolding below liveFaces
-meshOf v f w p q = record { points = map (vertexAt v f w p q) (below v); faces = liveFaces f w }
+unfolding below those liveFaces
+meshOf v f w p q = record { points = map (vertexAt v f w p q) (below v); faces = liveFaces f w; numbers = liveNumbers f w }
 
 -- the parts of the points of a list of numbers, three to a point
 unfoldable pub partsOf : List Float → List ℕ → List Float

@@ -13,18 +13,17 @@ use Rattle.placement.specs.Choices.{kindNumber}
 use Rattle.placement.proofs.PlacementLaws.{kind-back}
 use Rattle.walk.specs.declared.Face.{Face}
 use Rattle.walk.specs.Faces.{proper, facesOf, faceAt}
-use Rattle.lists.proofs.EveryLaws.{every-count, every-at, every-from, every-head, every-tail, length-those, count-not}
-use Rattle.lists.proofs.BelowLaws.{length-below, getD-below, length-each, getD-each, each-same}
-use Rattle.memory.specs.Memory.{kind, lives, liveFaces}
+use Rattle.lists.proofs.EveryLaws.{every-count, every-at, every-head, every-tail, length-those, count-not}
+use Rattle.lists.proofs.BelowLaws.{length-below, length-each, getD-each, each-same}
+use Rattle.memory.specs.Memory.{kind, lives, liveFaces, liveNumbers}
 use Rattle.mesh.specs.Contracts.Laid.{Laid, Kinded}
 use Rattle.meaning.specs.Input.{pointAt}
 use Rattle.memory.specs.Points.{quadricAt, withPoints, vertexAt, meshOf}
 use Rattle.meaning.specs.Start.{gathered, startKind, startVertex, startMesh}
 use Rattle.mesh.specs.Contracts.Quadrics.{QuadricsAre}
-use Rattle.memory.proofs.MeshLaws.{mesh-of-parts}
+use Rattle.memory.proofs.MeshLaws.{mesh-of-parts, live-numbers-but}
 use Rattle.mesh.proofs.GatheredLaws.{gathered-same}
 use Rattle.mesh.proofs.QuadricLaws.{points-laid}
-use Rattle.memory.specs.Layout.{livesFrom}
 
 -- ---- f live faces in f slots are in all of them
 
@@ -58,18 +57,19 @@ module _ (f : ℕ) (faces w : List ℕ) (same : liveFaces f w ≡ facesOf f face
       rw (getD-each (faceAt w) f k first h) at
       (every-at (proper v) first (map (faceAt w) (below f)) (rw slots-laid all) k (rw length-each h))
 
--- kinds are written past the faces
+-- kinds are written past the faces: every face is live still
+pub kinded-numbers : {v f : ℕ} {preserve : Bool} {margin faces w₀ w w' : List ℕ} →
+    Laid v f faces w₀ w → Kinded v f preserve margin w w' → liveNumbers f w' ≡ below f
+kinded-numbers {v} {f} {preserve} {margin} {faces} {w₀} {w} {w'} laid kinded =
+    live-numbers-but f (kinded .but) (omega arith) ∙ those-every (lives f w) (below f) (all-live f faces w (laid .same-faces))
+
+-- and where it was
 pub kinded-laid : {v f : ℕ} {preserve : Bool} {margin faces w₀ w w' : List ℕ} →
     Laid v f faces w₀ w → Kinded v f preserve margin w w' → liveFaces f w' ≡ facesOf f faces
 unfolding liveFaces
 kinded-laid {v} {f} {preserve} {margin} {faces} {w₀} {w} {w'} laid kinded =
     let kept : (i : ℕ) → i < 4 * f → getD w' i 0 ≡ getD w i 0 = λ i l. kinded .but .under i (omega arith) in
-    let before = every-at (lives f w) 0 (below f) (all-live f faces w (laid .same-faces)) in
-    let live : every (lives f w') (below f) ≡ true =
-    every-from (lives f w') 0 (below f)
-    (λ k l. let k-f : k < f = rw length-below at l in
-    rw (getD-below f k k-f, kept (livesFrom f + k) (omega arith)) (rw (getD-below f k k-f) at (before k l))) in
-    ap (map (faceAt w')) (those-every (lives f w') (below f) live)
+    ap (map (faceAt w')) (kinded-numbers laid kinded)
     ∙ each-same (faceAt w) (faceAt w') f
     (λ k l. rw (kept (3 * k) (omega arith), kept (3 * k + 1) (omega arith), kept (3 * k + 2) (omega arith)))
     ∙ slots-laid f faces w (laid .same-faces)
@@ -79,18 +79,18 @@ kinded-laid {v} {f} {preserve} {margin} {faces} {w₀} {w} {w'} laid kinded =
 module _ (v f : ℕ) (points : List Float) (faces : List ℕ) (preserve : Bool) (margin : List ℕ) (all-proper : every (proper v) (facesOf f faces) ≡ true) where
   -- from what the memory holds of each point
   pub mesh-started : (w : List ℕ) (p q : List Float) →
-      liveFaces f w ≡ facesOf f faces →
+      liveFaces f w ≡ facesOf f faces → liveNumbers f w ≡ below f →
       ((x : ℕ) → x < v → kind v f w x ≡ kindNumber (startKind v (facesOf f faces) preserve margin x)) →
       ((x : ℕ) → x < v → pointAt p x ≡ pointAt points x) →
       ((x : ℕ) → x < v → quadricAt q x ≡ gathered p x zeroQuadric (facesOf f faces)) →
       meshOf v f w p q ≡ startMesh v f points faces preserve margin
   unfolding meshOf startMesh
-  mesh-started w p q same kinds places quadrics =
+  mesh-started w p q same numbers kinds places quadrics =
       let faces-of = facesOf f faces in
       let quadric : (x : ℕ) → x < v → quadricAt q x ≡ gathered points x zeroQuadric faces-of =
       λ x h. quadrics x h ∙ gathered-same points p v places x zeroQuadric faces-of all-proper in
-      mesh-of-parts _ _ _ _
-      (each-same (startVertex points faces-of v preserve margin) (vertexAt v f w p q) v (λ x h. rw (places x h, quadric x h, kinds x h, kind-back))) same
+      mesh-of-parts _ _ _ _ _ _
+      (each-same (startVertex points faces-of v preserve margin) (vertexAt v f w p q) v (λ x h. rw (places x h, quadric x h, kinds x h, kind-back))) same numbers
 
   -- the same, as the contracts of laying hand it over. The quadrics may be laid before the kinds or after them, from w'.
   pub mesh-laid : {w₀ w₁ w : List ℕ} {p q₀ q : List Float} (w' : List ℕ) (p₀ : List Float) →
@@ -100,7 +100,7 @@ module _ (v f : ℕ) (points : List Float) (faces : List ℕ) (preserve : Bool) 
       QuadricsAre v (λ x. gathered p x zeroQuadric (map (faceAt w') (below f))) q₀ q →
       meshOf v f w p q ≡ startMesh v f points faces preserve margin
   mesh-laid {w₀} {w₁} {w} {p} {q₀} {q} w' p₀ laid kinded long copied same quadrics =
-      mesh-started w p q (kinded-laid laid kinded)
+      mesh-started w p q (kinded-laid laid kinded) (kinded-numbers laid kinded)
       (λ x h. kinded .kinds x h ∙ ap (λ (fs : List Face). kindNumber (startKind v fs preserve margin x)) (laid .same-faces))
       (λ x h. rw copied (points-laid v points p₀ long x h))
       (λ x h. quadrics .at x h ∙ ap (gathered p x zeroQuadric) (slots-laid f faces w' same))

@@ -4,7 +4,6 @@ use Prim.Native.Nat.{ℕ, _+_, _≤_, _<_}
 use native.Mathlib.Omega.{arith}
 use mathlib.Core.Path.{_≡_, refl, sym, ap, ap₂, subst, _∙_}
 use mathlib.Core.List.{List}
-use mathlib.Core.Bool.{true, false}
 use lib.Ieee.{Float}
 use lib.Dec.{leb}
 use lib.ListN.{length}
@@ -15,8 +14,10 @@ use Rattle.placement.specs.Pairs.{pairPlace}
 use Rattle.walk.specs.declared.Pair.{Pair}
 use Rattle.lists.specs.Lists.{sum, below}
 use Rattle.walk.specs.Faces.{Mesh}
-use Rattle.walk.specs.FoldTest.{allowed}
-use Rattle.walk.specs.Walk.{State, StepAnswer, folded, closed, ended, tried, chosen, answer, after, SameState}
+use Rattle.walk.specs.declared.Reason.{Reason}
+use Rattle.walk.specs.declared.Tested.the-variants.{Allowed, Not}
+use Rattle.walk.specs.FoldTest.{foldTest}
+use Rattle.walk.specs.Walk.{State, StepAnswer, folded, closed, ended, toldBy, tried, chosen, answer, after, SameState}
 use Rattle.walk.specs.Pairs.{pairOf}
 use Rattle.walk.proofs.SamePairs.{bag-taken-pair}
 use Rattle.lists.proofs.BagLaws.{bag-refl}
@@ -101,29 +102,30 @@ module _ {v f : ℕ} {w : List ℕ} {p q : List Float} {n live : ℕ} {bound : F
   }
 
   -- it is closed: the state after that
-  closed-state : {w' : List ℕ} {n' : ℕ} → ClosedAt v f w n (r .at) w' n' → (limit : Limit) →
-      SameState (stateOf v f w' p q n') (after (rulesOf limit bound) (stateOf v f w p q n) (closed (pairOf (r .fold .keep) (r .fold .remove))))
+  closed-state : {w' : List ℕ} {n' : ℕ} → ClosedAt v f w n (r .at) w' n' → (limit : Limit) (reason : Reason) →
+      SameState (stateOf v f w' p q n') (after (rulesOf limit bound) (stateOf v f w p q n) (closed (pairOf (r .fold .keep) (r .fold .remove)) reason))
   unfolding stateOf after
-  closed-state {w'} {n'} done limit = record {
+  closed-state {w'} {n'} done limit reason = record {
     same-mesh = mesh-but v f p q (done .but) (omega arith);
     same-open =
         bag-taken-pair (pairOf (r .fold .keep) (r .fold .remove)) (openPairs v f w' n') (openPairs v f w n)
         (λ g. ap (λ (x : Pair). sum g (openPairs v f w' n') + g x) (sym (found .same-pair)) ∙ done .sums g);
   }
 
-  pub closed-done : {w' : List ℕ} {n' : ℕ} → ClosedAt v f w n (r .at) w' n' → (limit : Limit) →
-      AnswerDone v f w p q n limit bound (closed (pairOf (r .fold .keep) (r .fold .remove))) w' p q
-      (record { step = Closed (pairOf (r .fold .keep) (r .fold .remove)); «open» = n'; live = live })
-  closed-done {w'} {n'} done limit =
+  pub closed-done : {w' : List ℕ} {n' : ℕ} → ClosedAt v f w n (r .at) w' n' → (limit : Limit) (reason : Reason) →
+      AnswerDone v f w p q n limit bound (closed (pairOf (r .fold .keep) (r .fold .remove)) reason) w' p q
+      (record { step = Closed (pairOf (r .fold .keep) (r .fold .remove)) reason; «open» = n'; live = live })
+  closed-done {w'} {n'} done limit reason =
       let x = pairOf (r .fold .keep) (r .fold .remove) in
-      let same : SameState (stateOf v f w' p q n') (after (rulesOf limit bound) (stateOf v f w p q n) (closed x)) = closed-state done limit in
+      let same : SameState (stateOf v f w' p q n') (after (rulesOf limit bound) (stateOf v f w p q n) (closed x reason)) =
+      closed-state done limit reason in
       record {
         holds =
             record {
               tidy = tidy-but (omega arith) (done .but) (h .tidy);
               points-long = h .points-long;
               quadrics-long = h .quadrics-long;
-              sound = sound-bag same (close-sound (rulesOf limit bound) (stateOf v f w p q n) (h .sound) x);
+              sound = sound-bag same (close-sound (rulesOf limit bound) (stateOf v f w p q n) (h .sound) x reason);
               counted = h .counted ∙ ap length (sym (live-faces-but f (done .but) (omega arith)));
             };
         within = within-but p q (done .but) (omega arith);
@@ -135,15 +137,15 @@ module _ {v f : ℕ} {w : List ℕ} {p q : List Float} {n live : ℕ} {bound : F
 
 module _ (v f : ℕ) (w : List ℕ) (p q : List Float) (n : ℕ) (r : Least) (limit : Limit) (bound : Float) {w' : List ℕ} {p' q' : List Float} {s : Stepped} where
   -- allowed, it is folded
-  pub tried-folded : allowed (rulesOf limit bound) (meshOf v f w p q) (pairOf (r .fold .keep) (r .fold .remove)) ≡ true →
+  pub tried-folded : foldTest (rulesOf limit bound) (meshOf v f w p q) (pairOf (r .fold .keep) (r .fold .remove)) ≡ Allowed →
       AnswerDone v f w p q n limit bound (folded (pairOf (r .fold .keep) (r .fold .remove))) w' p' q' s → PairTried v f w p q n r limit bound w' p' q' s
-  unfolding tried
+  unfolding tried toldBy
   tried-folded passes done = rw passes done
 
-  -- not allowed, it is closed
-  pub tried-closed : allowed (rulesOf limit bound) (meshOf v f w p q) (pairOf (r .fold .keep) (r .fold .remove)) ≡ false →
-      AnswerDone v f w p q n limit bound (closed (pairOf (r .fold .keep) (r .fold .remove))) w' p' q' s → PairTried v f w p q n r limit bound w' p' q' s
-  unfolding tried
+  -- not allowed, it is closed, and the reason told
+  pub tried-closed : {reason : Reason} → foldTest (rulesOf limit bound) (meshOf v f w p q) (pairOf (r .fold .keep) (r .fold .remove)) ≡ Not reason →
+      AnswerDone v f w p q n limit bound (closed (pairOf (r .fold .keep) (r .fold .remove)) reason) w' p' q' s → PairTried v f w p q n r limit bound w' p' q' s
+  unfolding tried toldBy
   tried-closed fails done = rw fails done
 
 -- what is done after cells of near and far have changed is done to the state as it was

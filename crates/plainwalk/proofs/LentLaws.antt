@@ -4,7 +4,7 @@ use Prim.Native.Nat.{ℕ, _+_, _^_, _≤_, _<_}
 use native.Mathlib.Nat.{le-refl}
 use native.Mathlib.Omega.{arith}
 use mathlib.Core.Path.{_≡_, refl, sym, ap, _∙_}
-use mathlib.Core.List.{List, [], _∷_}
+use mathlib.Core.List.{List, [], _∷_, _++_}
 use lib.Ieee.{Float}
 use lib.ListN.{length, length-append}
 use Rattle.placement.specs.declared.Limit.{Limit}
@@ -13,7 +13,11 @@ use Rattle.lists.specs.Lists.{below}
 use Rattle.lists.specs.Frames.{But}
 use Rattle.walk.specs.declared.Pair.{Pair}
 use Rattle.walk.specs.Faces.{Mesh}
-use Rattle.walk.specs.Walk.{State, foldOf, budget, answer, after, SameState, plainMachine}
+use Rattle.walk.specs.declared.Reason.{Reason}
+use Rattle.walk.specs.Closings.{closingsOf}
+use Rattle.walk.specs.Contracts.{RoomToCount}
+use Rattle.walk.proofs.ClosingLaws.{few-closed, budget-few}
+use Rattle.walk.specs.Walk.{State, foldOf, reasonOf, budget, answer, after, SameState, plainMachine}
 use Rattle.walk.specs.Sound.{Sound}
 use Rattle.walk.proofs.WalkLaws.{facesLeft, SoundWithin, plain-ending}
 use Rattle.walk.proofs.StateLaws.{SoundFew, plain-alike, start-bag}
@@ -94,17 +98,18 @@ module _ {v f : ℕ} (h : Holding v f) where
       pub same-answer : answerOf step ≡ answer (rulesOf limit bound) target (h .state m)
       pub same-state : SameState (h .state m') (after (rulesOf limit bound) (h .state m) (answer (rulesOf limit bound) target (h .state m)))
 
-    -- Where a walk in the lent memory has come from m₀, after n folds.
-    pub record Walking (m₀ m : Moment) (n : ℕ) : Type 0 where
+    -- Where a walk in the lent memory has come from m₀, after n folds and pairs closed for these reasons.
+    pub record Walking (m₀ m : Moment) (n : ℕ) (reasons : List Reason) : Type 0 where
       pub start : h .Held m₀
-      pub going : Going engine m₀ m n
+      pub going : Going engine m₀ m n reasons
 
     -- before the first step
-    pub walking-start : (m : Moment) → h .Held m → Walking m m 0
+    pub walking-start : (m : Moment) → h .Held m → Walking m m 0 []
     unfolding foldsIn below
     walking-start m held = record { start = held; going = any.going-start engine m held refl }
 
-module _ {v f : ℕ} {h : Holding v f} {target : ℕ} {limit : Limit} {bound : Float} {m₀ m : Moment} {n : ℕ} (walking : Walking h target limit bound m₀ m n) where
+module _ {v f : ℕ} {h : Holding v f} {target : ℕ} {limit : Limit} {bound : Float} {m₀ m : Moment} {n : ℕ} {reasons : List Reason}
+    (walking : Walking h target limit bound m₀ m n reasons) where
   -- each fold has killed a face, so with those that are left they are at most f
   pub folds-few : n + m .live ≤ f
   folds-few =
@@ -135,6 +140,11 @@ module _ {v f : ℕ} {h : Holding v f} {target : ℕ} {limit : Limit} {bound : F
       unfolding foldOf
       fold-told = rw told
 
+      -- and closes none
+      none-told : reasonOf (answerOf step) ≡ []
+      unfolding reasonOf
+      none-told = rw told
+
       -- there is room to write it down
       pub room-folded : (n < f) × Room v f (m' .u32s)
       room-folded = (
@@ -160,29 +170,47 @@ module _ {v f : ℕ} {h : Holding v f} {target : ℕ} {limit : Limit} {bound : F
           }
 
       -- so the walk goes on, on a smaller budget
-      pub turn-folded : Walking h target limit bound m₀ (noted v f n x m') (n + 1)
-      turn-folded = record { start = walking .start; going = any.turn-folded (walking .start) (walking .going) taken fold-told note }
+      pub turn-folded : Walking h target limit bound m₀ (noted v f n x m') (n + 1) reasons
+      turn-folded = record { start = walking .start; going = any.turn-folded (walking .start) (walking .going) taken fold-told none-told note }
 
       pub less-folded : budget f (h .state (noted v f n x m')) < budget f (h .state m)
       less-folded =
           rw (note .same-state)
           (any.turn-less (walking .start) (walking .going) taken (λ d. let z : _≡_ {A = ℕ} 0 1 = cc (sym (ap answerOf told) ∙ d) in omega arith))
 
-    -- a pair was closed: the walk goes on, on a smaller budget
-    pub turn-closed : {x : Pair} → step ≡ Closed x → Walking h target limit bound m₀ m' n
-    unfolding foldOf
-    turn-closed told = record {
-      start = walking .start;
-      going = any.turn-closed (walking .start) (walking .going) taken (ap (λ (s : Step). foldOf (answerOf s)) told);
-    }
+    -- a pair was closed
+    module _ {x : Pair} {reason : Reason} (told : step ≡ Closed x reason) where
+      -- its answer tells that reason alone
+      reason-told : reasonOf (answerOf step) ≡ (reason ∷ [])
+      unfolding reasonOf
+      reason-told = rw told
 
-    pub less-closed : {x : Pair} → step ≡ Closed x → budget f (h .state m') < budget f (h .state m)
-    less-closed told =
-        any.turn-less (walking .start) (walking .going) taken (λ d. let z : _≡_ {A = ℕ} 0 1 = cc (sym (ap answerOf told) ∙ d) in omega arith)
+      -- it can be counted
+      pub room-closed : RoomToCount (closingsOf reasons)
+      room-closed =
+          few-closed reasons reason
+          (omega (
+            arith,
+            rw reason-told at (any.step-closes (walking .start) (walking .going) taken),
+            budget-few f (h .state m₀) (h .sound m₀ (walking .start)) (h .tidy m₀ (walking .start) .room .faces-few) (faces-few h m₀),
+          ))
+
+      -- and the walk goes on, on a smaller budget
+      pub turn-closed : Walking h target limit bound m₀ m' n (reasons ++ (reason ∷ []))
+      unfolding foldOf
+      turn-closed = record {
+        start = walking .start;
+        going = rw reason-told at (any.turn-closed (walking .start) (walking .going) taken (ap (λ (s : Step). foldOf (answerOf s)) told));
+      }
+
+      pub less-closed : budget f (h .state m') < budget f (h .state m)
+      less-closed =
+          any.turn-less (walking .start) (walking .going) taken (λ d. let z : _≡_ {A = ℕ} 0 1 = cc (sym (ap answerOf told) ∙ d) in omega arith)
 
     -- at the end it is the plain walk that was walked
     pub walking-end : step ≡ Ended →
-        WalkedFrom v f (h .state m₀) (m₀ .u32s) (m₀ .f32s) (m₀ .f64s) target limit bound (m' .u32s) (m' .f32s) (m' .f64s) (record { folds = n; live = m' .live })
+        WalkedFrom v f (h .state m₀) (m₀ .u32s) (m₀ .f32s) (m₀ .f64s) target limit bound (m' .u32s) (m' .f32s) (m' .f64s)
+        (record { folds = n; closed = closingsOf reasons; live = m' .live })
     walking-end told =
         let over = any.going-end (walking .start) (walking .going) taken (ap answerOf told) in
         record {
@@ -191,6 +219,7 @@ module _ {v f : ℕ} {h : Holding v f} {target : ℕ} {limit : Limit} {bound : F
           same-mesh = sym (h .same-mesh m') ∙ over .0 .same-mesh;
           same-folds = sym (folds-length v f (m' .u32s) n) ∙ ap length (over .1);
           same-list = over .1;
+          same-closed = ap closingsOf (over .2);
           counted = h .counted m' (done .holds);
         }
 
@@ -206,5 +235,6 @@ walked-whole {v} {f} h m {target = target} {limit} {bound} held same within done
       same-mesh = done .same-mesh ∙ both .0;
       same-folds = done .same-folds ∙ ap length (both .1);
       same-list = done .same-list ∙ both .1;
+      same-closed = done .same-closed ∙ ap closingsOf (both .2);
       counted = done .counted;
     }

@@ -2,6 +2,7 @@
 pub mod MemoryLaws
 pub mod NoteLaws
 pub mod LentLaws
+pub mod CountLaws
 pub mod AnswerLaws
 pub mod FoldedLaws
 mod TriedLaws

@@ -8,6 +8,7 @@ use mathlib.Core.List.{List}
 use lib.Ieee.{Float}
 use lib.ListN.{length}
 use Rattle.placement.specs.declared.Limit.{Limit}
+use Rattle.walk.specs.declared.Reason.{Reason}
 use Rattle.walk.specs.Pairs.{pairOf, opened}
 use Rattle.walk.proofs.SoundLaws.{isOpen, open-differ}
 use Rattle.meaning.specs.Arithmetic.{rulesOf}
@@ -73,15 +74,16 @@ module _ {v f : ℕ} {w : List ℕ} {p q : List Float} {n live : ℕ} {bound : F
   -- ---- it isn't allowed
 
   module _ {limit : Limit} {w₁ : List ℕ} {p' q' : List Float}
-      (tried : FoldTried v f limit bound w p q (least .fold .keep) (least .fold .remove) w₁ p' q' Refused) where
+      {reason : Reason} (tried : FoldTried v f limit bound w p q (least .fold .keep) (least .fold .remove) w₁ p' q' (Refused reason)) where
     -- what closing the pair asks
     pub refused-few : (least .at < n) × (n ≤ 3 * f) × Room v f w₁
     refused-few = rw (tried .came .1) (found .within, open-few h, holds-but h (tried .but) (omega arith) .tidy .room)
 
     pub refused-done : {w₂ : List ℕ} {n' : ℕ} → ClosedAt v f w₁ n (least .at) w₂ n' →
-        PairTried v f w p q n least limit bound w₂ p' q' (record { step = Closed (pairOf (least .fold .keep) (least .fold .remove)); «open» = n'; live = live })
+        PairTried v f w p q n least limit bound w₂ p' q'
+        (record { step = Closed (pairOf (least .fold .keep) (least .fold .remove)) reason; «open» = n'; live = live })
     refused-done close =
         rw (tried .came .2, tried .came .3)
         (tried-before least h (tried .but) (omega arith) (omega arith)
         (tried-closed _ _ _ _ _ _ least limit bound (tried .came .0)
-        (closed-done (holds-but h (tried .but) (omega arith)) (found-but h found (tried .but) (omega arith)) (rw (tried .came .1) at close) limit)))
+        (closed-done (holds-but h (tried .but) (omega arith)) (found-but h found (tried .but) (omega arith)) (rw (tried .came .1) at close) limit reason)))

@@ -25,7 +25,7 @@ use Rattle.memory.specs.Layout.{costsTo, foldsFrom, placesTo, workTo}
 -- what each case of a step's answer stands for
 abbrev pub answerOf : Step → StepAnswer
 answerOf (Folded p) = folded p
-answerOf (Closed p) = closed p
+answerOf (Closed p reason) = closed p reason
 answerOf Ended = ended
 
 -- The memory holds a state of the walk: n open pairs, and live is the number of live faces.

@@ -10,12 +10,14 @@ ghost use Rattle.plainwalk.specs.Whole.{WalkedFrom, WalkDone};
 use folding::Tried;
 use openpairs::Least;
 use placement::Bounds;
+use walk::Closings;
 use walk::Pair;
+use walk::Reason;
 
-// What a step did: it folded a pair, closed one, or found the walk at its end.
+// What a step did: it folded a pair, closed one for a reason, or found the walk at its end.
 pub enum Step {
     Folded(Pair),
-    Closed(Pair),
+    Closed(Pair, Reason),
     Ended,
 }
 
@@ -26,9 +28,10 @@ pub struct Stepped {
     pub live: usize,
 }
 
-// The folds made and the faces left.
+// The folds made, the pairs closed by reason, and the faces left.
 pub struct Walked {
     pub folds: usize,
+    pub closed: Closings,
     pub live: usize,
 }
 
@@ -62,11 +65,11 @@ fn try_pair(
                 live: left,
             }
         }
-        Tried::Refused => {
+        Tried::Refused(reason) => {
             let at = least.at;
             let still_open = openpairs::close_pair(w, v, f, open, at);
             Stepped {
-                step: Step::Closed(Pair { keep, remove }),
+                step: Step::Closed(Pair { keep, remove }, reason),
                 open: still_open,
                 live,
             }
@@ -125,6 +128,11 @@ fn walk_on(
     let mut pairs_open = open;
     let mut faces_live = live;
     let mut folds = 0;
+    let mut closed = Closings {
+        unlinked: 0,
+        squashed: 0,
+        turned: 0,
+    };
     loop {
         let stepped = plain_step(w, p, q, v, f, pairs_open, faces_live, target, bounds);
         pairs_open = stepped.open;
@@ -135,10 +143,13 @@ fn walk_on(
                 memory::note_fold(w, v, f, folds, pair);
                 folds += 1;
             }
-            Step::Closed(_) => {}
+            Step::Closed(_, reason) => {
+                closed = walk::counted(closed, reason);
+            }
             Step::Ended => {
                 return Walked {
                     folds,
+                    closed,
                     live: faces_live,
                 };
             }

@@ -67,7 +67,7 @@ module _ (i : Input) (admitted : verdictOf i ≡ Admitted) (preserved : i .optio
           y-k = λ d. of-y .0 (sym d);
           y-r = λ d. of-y .1 (sym d);
         })
-    step-shares n (closed p) e = refl
+    step-shares n (closed p reason) e = refl
     step-shares n ended e = refl
 
     -- so after any number of steps exactly one face holds both ends

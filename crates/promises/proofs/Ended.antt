@@ -14,7 +14,8 @@ use Rattle.lists.proofs.BelowLaws.{length-each}
 use Rattle.placement.specs.declared.pair.Vertex.{Vertex}
 use Rattle.walk.specs.declared.Pair.{Pair}
 use Rattle.walk.specs.Faces.{faceAt}
-use Rattle.walk.specs.Walk.{walk, foldList, State, folded, ended, started, budget, answer, plainMachine}
+use Rattle.walk.specs.Closings.{closingsOf}
+use Rattle.walk.specs.Walk.{walk, foldList, reasonList, foldOf, reasonOf, State, folded, ended, started, budget, answer, plainMachine}
 use Rattle.walk.specs.Sound.{Sound}
 use Rattle.walk.proofs.SoundLaws.{started-sound}
 use Rattle.walk.proofs.StepLaws.{ended-open, fold-answer}
@@ -25,8 +26,8 @@ use Rattle.meaning.specs.declared.Verdict.the-variants.{Admitted}
 use Rattle.meaning.specs.Input.{Input, pointsIn, facesIn}
 use Rattle.meaning.specs.Answers.{verdictOf}
 use Rattle.meaning.specs.Start.{startVertex, startMesh}
-use Rattle.meaning.specs.Outcome.{rulesIn, startOf, targetOf, lastMesh, foldsWalked}
-use Rattle.promises.specs.Steps.{stateAt, answerAt, foldsTo, budgetOf, givenFaces}
+use Rattle.meaning.specs.Outcome.{rulesIn, startOf, targetOf, lastMesh, foldsWalked, closedWalked}
+use Rattle.promises.specs.Steps.{stateAt, answerAt, foldsTo, reasonsTo, budgetOf, givenFaces}
 use Rattle.promises.proofs.Admitted.{passed}
 
 -- ---- the folds
@@ -35,7 +36,7 @@ use Rattle.promises.proofs.Admitted.{passed}
 pub folds-are-steps : (i : Input) (p : Pair) → List·Memᴰ p (foldsWalked i) → (n : ℕ) × (answerAt i n ≡ folded p)
 unfolding foldsWalked
 folds-are-steps i p m =
-    let (n, _, there) = machines.foldList-step (plainMachine (rulesIn i) (targetOf i)) (budgetOf i) (startOf i) p m in
+    let (n, _, there) = machines.collected-step (plainMachine (rulesIn i) (targetOf i)) foldOf (budgetOf i) (startOf i) p m in
     (n, fold-answer (answerAt i n) p there)
 
 -- ---- the start
@@ -87,21 +88,28 @@ module _ (i : Input) (admitted : verdictOf i ≡ Admitted) where
       answer (rulesIn i) (targetOf i) (walk (plainMachine (rulesIn i) (targetOf i)) (budget (facesIn i) (startOf i)) (startOf i)) ≡ ended
   walk-has-ended = walk-ends (rulesIn i) (targetOf i) (facesIn i) (budgetOf i) (startOf i) start-sound few (le-refl _)
 
-  -- any larger number of steps comes to the same state with the same folds, so that the budget need not be believed
+  -- any larger number of steps comes to the same state with the same folds and the same closings, so that the budget need not be believed
   pub any-budget :
       (n : ℕ) → budget (facesIn i) (startOf i) ≤ n
       → (walk (plainMachine (rulesIn i) (targetOf i)) n (startOf i)
       ≡ walk (plainMachine (rulesIn i) (targetOf i)) (budget (facesIn i) (startOf i)) (startOf i))
       × (foldList (plainMachine (rulesIn i) (targetOf i)) n (startOf i) ≡ foldsWalked i)
-  unfolding foldsWalked
-  any-budget n enough = walk-enough (rulesIn i) (targetOf i) (facesIn i) n (startOf i) start-sound few enough
+      × (closingsOf (reasonList (plainMachine (rulesIn i) (targetOf i)) n (startOf i)) ≡ closedWalked i)
+  unfolding foldsWalked closedWalked
+  any-budget n enough =
+      let same = walk-enough (rulesIn i) (targetOf i) (facesIn i) n (startOf i) start-sound few enough in
+      (same .0, same .1, ap closingsOf (same .2))
 
-  -- and wherever the answer is the end, the mesh is the last one and the folds are all
-  pub wherever-ended : (n : ℕ) → answerAt i n ≡ ended → (stateAt i n .mesh ≡ lastMesh i) × (foldsTo i n ≡ foldsWalked i)
-  unfolding lastMesh foldsWalked
+  -- and wherever the answer is the end, the mesh is the last one, the folds are all, and so are the closings
+  pub wherever-ended : (n : ℕ) → answerAt i n ≡ ended →
+      (stateAt i n .mesh ≡ lastMesh i) × (foldsTo i n ≡ foldsWalked i) × (closingsOf (reasonsTo i n) ≡ closedWalked i)
+  unfolding lastMesh foldsWalked closedWalked foldOf reasonOf
   wherever-ended n e =
-      let over = machines.walk-over (plain-ending (rulesIn i) (targetOf i) (facesIn i)) n (startOf i) (start-sound, few) e in
-      (ap (λ (s : State Vertex). s .mesh) (over .0), over .1)
+      let ending = plain-ending (rulesIn i) (targetOf i) (facesIn i) in (
+        ap (λ (s : State Vertex). s .mesh) (machines.walk-over ending n (startOf i) (start-sound, few) e),
+        machines.collected-over ending foldOf refl n (startOf i) (start-sound, few) e,
+        ap closingsOf (machines.collected-over ending reasonOf refl n (startOf i) (start-sound, few) e),
+      )
 
   -- it has ended at the target, or with no pair open
   pub ended-because : (length (lastMesh i .faces) ≤ targetOf i) ⊎ (stateAt i (budgetOf i) .«open» ≡ [])

@@ -23,7 +23,7 @@ use Rattle.meaning.specs.declared.Verdict.the-variants.{Refused, Copied, Admitt
 use Rattle.meaning.specs.Input.{Input, pointsIn, facesIn, boundIn}
 use Rattle.meaning.specs.Answers.{uneven, large, short, empty, badRatio, badLimit, badUnit, badCoordinate, outside, badEntry, verdictOf}
 use Rattle.meaning.specs.Start.{startKind, fixedCount}
-use Rattle.meaning.specs.Outcome.{targetOf, foldsWalked, stuck, fixedIn, stuckAnswer, outcome, outcomeBy}
+use Rattle.meaning.specs.Outcome.{closedWalked, targetOf, foldsWalked, stuck, fixedIn, stuckAnswer, outcome, outcomeBy}
 use Rattle.meaning.proofs.FaceVerdictLaws.{badFace}
 use Rattle.meaning.proofs.MarginVerdictLaws.{someBad}
 use Rattle.promises.specs.Steps.{budgetOf, givenFaces, fixedPoint}
@@ -55,7 +55,7 @@ unfolding outcome outcomeBy
 copied i e = (ap (λ (d : Verdict). outcomeBy d i .answer .number) e, ap (λ (d : Verdict). outcomeBy d i .answer .place) e)
 
 -- walked with no fold made: 10 or 11
-stuck-answers : (i : Input) → verdictOf i ≡ Admitted → stuck i ≡ true → Answers i (stuckAnswer (fixedIn i) .number) (stuckAnswer (fixedIn i) .place)
+stuck-answers : (i : Input) → verdictOf i ≡ Admitted → stuck i ≡ true → Answers i (stuckAnswer (fixedIn i) (closedWalked i) .number) (stuckAnswer (fixedIn i) (closedWalked i) .place)
 unfolding outcome outcomeBy
 stuck-answers i e t = (rw (e, t), rw (e, t))
 

@@ -6,7 +6,7 @@ use mathlib.Core.Logic.{_≢_}
 use mathlib.Core.List.{List·Memᴰ}
 use mathlib.Core.Bool.{true, false, not, _||_}
 use mathlib.Mathlib.Data.Bool.Basic.{and-elim-right}
-use borrow.Author.Tests.{not-true}
+use borrow.Author.Tests.{not-true, not-false}
 use lib.ListN.{length}
 use lib.Ieee.{binary32, mul, lt}
 use Rattle.geometry.specs.declared.Point.{Point}
@@ -17,7 +17,8 @@ use Rattle.walk.specs.declared.Face.{Face}
 use Rattle.walk.specs.declared.Pair.{Pair}
 use Rattle.walk.specs.Faces.{holds, both, shared, common, renamedFace, Mesh, dataOf}
 use Rattle.walk.specs.Fold.{foldedFaces, foldedMesh}
-use Rattle.walk.specs.FoldTest.{allowed}
+use Rattle.walk.specs.declared.Tested.the-variants.{Allowed}
+use Rattle.walk.specs.FoldTest.{foldTest}
 use Rattle.walk.specs.Walk.{State, StepAnswer, folded, after, plainMachine}
 use Rattle.walk.proofs.FaceLaws.{holds-gone}
 use Rattle.walk.proofs.SoundLaws.{isOpen, open-differ, open-below}
@@ -28,19 +29,16 @@ use Rattle.walk.proofs.FairLaws as fair
 use Rattle.meaning.specs.declared.Verdict.the-variants.{Admitted}
 use Rattle.meaning.specs.Input.{Input, pointsIn}
 use Rattle.meaning.specs.Answers.{verdictOf}
-use Rattle.meaning.specs.Arithmetic.{tiny, hundredth, rulesOf, fairPoints, fairNormals}
+use Rattle.meaning.specs.Arithmetic.{tiny, hundredth, rulesOf, squashedPoints, turnedPoints, squashedNormals, turnedNormals}
 use Rattle.meaning.specs.Outcome.{rulesIn, startOf, targetOf}
 use Rattle.promises.specs.Steps.{stateAt, answerAt, facesAt, carried, normalAt}
 use Rattle.promises.specs.Fair.{NotTurned, holdsOne, holdsNeither}
 use Rattle.promises.proofs.Ended.{states-sound, states-points}
 
--- the test of document 01, taken apart
-not-turned : (before after : Point) → fairNormals before after ≡ true → NotTurned before after
-not-turned before after h =
-    let parts =
-    both-true (lt (mul binary32 tiny (norm before)) (norm after))
-    (lt (mul binary32 (mul binary32 hundredth (norm before)) (norm after)) (dot before after)) h in
-    record { not-squashed = parts .0; not-over = parts .1 }
+-- what the two tests of document 01 say that don't fail
+not-turned : (before after : Point) → (squashedNormals before after ≡ false) × (turnedNormals before after ≡ false) → NotTurned before after
+not-turned before after (squashed, turned) =
+    record { not-squashed = not-false (lt (mul binary32 tiny (norm before)) (norm after)) squashed; not-over = not-false (lt (mul binary32 (mul binary32 hundredth (norm before)) (norm after)) (dot before after)) turned }
 
 -- the mesh after the step is the folded mesh
 pub mesh-after : (i : Input) (n : ℕ) (p : Pair) → answerAt i n ≡ folded p → stateAt i (n + 1) .mesh ≡ foldedMesh (rulesIn i) (stateAt i n .mesh) p
@@ -51,7 +49,7 @@ mesh-after i n p e =
 
 module _ (i : Input) (admitted : verdictOf i ≡ Admitted) (n : ℕ) (p : Pair) (is-folded : answerAt i n ≡ folded p) where
   -- what the answer tells: the pair is open, and its fold is allowed
-  told : isOpen (stateAt i n) p × (allowed (rulesIn i) (stateAt i n .mesh) p ≡ true)
+  told : isOpen (stateAt i n) p × (foldTest (rulesIn i) (stateAt i n .mesh) p ≡ Allowed)
   told = answer-folded (rulesIn i) (targetOf i) (stateAt i n) p is-folded
 
   -- keep and remove are two points
@@ -90,7 +88,7 @@ module _ (i : Input) (admitted : verdictOf i ≡ Admitted) (n : ℕ) (p : Pair) 
         holdsOne p f ≡ true
         → List·Memᴰ (renamedFace (p .keep) (p .remove) f) (facesAt i (n + 1))
         × NotTurned (normalAt i n f) (normalAt i (n + 1) (renamedFace (p .keep) (p .remove) f))
-    unfolding rulesOf fairPoints
+    unfolding rulesOf squashedPoints turnedPoints
     one-stays-fair one =
         let parts = both-true (holds (p .keep) f || holds (p .remove) f) (not (both (p .keep) (p .remove) f)) one in
         let not-both = not-true (both (p .keep) (p .remove) f) (parts .1) in

@@ -88,7 +88,7 @@ module _ (limit : Limit) {bound : Float} (b : ℕ) (fits : b ≤ 126) (is-power 
   after-small s (folded p) all =
       every-set (smallVertex bound) (s .mesh .points) (p .keep) (mergedOf (rulesOf limit bound) (s .mesh) p) all
       (merged-small _ _ (data-small (s .mesh) all (p .keep)) (data-small (s .mesh) all (p .remove)))
-  after-small s (closed p) all = all
+  after-small s (closed p reason) all = all
   after-small s ended all = all
 
   -- after any number of steps

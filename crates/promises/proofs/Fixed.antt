@@ -17,6 +17,7 @@ use Rattle.lists.proofs.BelowLaws.{getD-each}
 use Rattle.placement.specs.declared.Kind.the-variants.{Free, Border, Margin}
 use Rattle.placement.specs.declared.pair.Vertex.{Vertex}
 use Rattle.placement.specs.Choices.{fixed}
+use Rattle.walk.specs.declared.Closings.{Closings}
 use Rattle.walk.specs.declared.Pair.{Pair}
 use Rattle.walk.specs.Faces.{holds, borderPoint, dataOf}
 use Rattle.walk.specs.Walk.{walk, started, folded}
@@ -32,7 +33,7 @@ use Rattle.meaning.specs.Input.{Input, pointsIn, pointAt, boundIn}
 use Rattle.meaning.specs.Answers.{verdictOf}
 use Rattle.meaning.specs.Arithmetic.{rulesOf}
 use Rattle.meaning.specs.Start.{inMargin, startKind, startVertex, startMesh}
-use Rattle.meaning.specs.Outcome.{rulesIn, startOf, targetOf, lastMesh, stuck, fixedIn, stuckAnswer, thinnedOutcome, Outcome, outcome, outcomeBy}
+use Rattle.meaning.specs.Outcome.{closedWalked, rulesIn, startOf, targetOf, lastMesh, stuck, fixedIn, stuckAnswer, thinnedOutcome, Outcome, outcome, outcomeBy}
 use Rattle.meaning.proofs.MarginVerdictLaws.{named-below}
 use Rattle.meaning.specs.Call.{Lent, Answered}
 use Rattle.meaning.proofs.PartsLaws.{parts-length, point-over, parts-at}
@@ -44,15 +45,15 @@ use Rattle.promises.proofs.Eligible.{eligible-fit, open-eligible}
 -- ---- an answer of 0
 
 -- a walk that is stuck is not answered with 0
-stuck-not : (points : ℕ) → stuckAnswer points .number ≡ 0 → ⊥
-stuck-not points e = by-test (ltb 0 points) (λ t. omega (arith, rw t at e)) (λ t. omega (arith, rw t at e))
+stuck-not : (points : ℕ) (closed : Closings) → stuckAnswer points closed .number ≡ 0 → ⊥
+stuck-not points closed e = by-test (ltb 0 points) (λ t. omega (arith, rw t at e)) (λ t. omega (arith, rw t at e))
 
 -- where the answer is 0, the outcome is the thinned mesh
 pub thinned-is : (i : Input) → verdictOf i ≡ Admitted → outcome i .answer .number ≡ 0 → outcome i ≡ thinnedOutcome i
 unfolding outcome outcomeBy
 thinned-is i admitted done =
     by-test (stuck i)
-    (λ t. absurd (stuck-not (fixedIn i) (rw (admitted, t) at done)))
+    (λ t. absurd (stuck-not (fixedIn i) (closedWalked i) (rw (admitted, t) at done)))
     (λ t. rw (admitted, t))
 
 -- ---- the start

@@ -7,6 +7,8 @@ pub mod Eligible
 pub mod Fixed
 pub mod Fair
 pub mod Border
+-- why it closed pairs
+pub mod Reasons
 -- the table of answers, exactly
 pub mod Says
 pub mod Words

@@ -1,17 +1,18 @@
--- What a refusal leaves: zeros in the last three, and both outputs as they came; and the work memory is untouched exactly on 1 to 9, 12 and 24.
+-- What a refusal leaves: zeros for the mesh, and both outputs as they came; the work memory is untouched exactly on 1 to 9, 12 and 24; and there, and where
+-- the mesh is copied, no pair was closed.
 -- Assumes nothing.
 use Prim.Native.Nat.{ℕ}
-use mathlib.Core.Path.{_≡_, refl, ap, _∙_}
+use mathlib.Core.Path.{_≡_, refl, sym, ap, _∙_}
 use mathlib.Core.Logic.{_≢_}
 use mathlib.Core.List.{[]}
-use mathlib.Core.Bool.{Bool, true, false, not, _&&_, _||_}
+use mathlib.Core.Bool.{Bool, true, false, not, _&&_, _||_, false≢true}
 use lib.Dec.{leb, ltb, eqb}
 use Rattle.lists.proofs.TestLaws.{by-test}
 use Rattle.meaning.specs.declared.Verdict.{Verdict}
 use Rattle.meaning.specs.declared.Verdict.the-variants.{Refused, Copied, Admitted}
 use Rattle.meaning.specs.Input.{Input}
 use Rattle.meaning.specs.Answers.{verdictOf}
-use Rattle.meaning.specs.Outcome.{stuck, fixedIn, Outcome, outcome, outcomeBy}
+use Rattle.meaning.specs.Outcome.{stuck, fixedIn, noneClosed, Outcome, outcome, outcomeBy}
 use Rattle.promises.specs.Table.{Given, row-1, row-2, row-3, row-4, row-5, row-6, row-24, row-7, row-zero, row-8, row-9, row-12, row-10, row-11, row-0}
 use Rattle.promises.proofs.Rows.{verdict-1, verdict-2, verdict-3, verdict-4, verdict-5, verdict-6, verdict-24, verdict-7, verdict-zero, verdict-8, verdict-9, verdict-12, verdict-admitted}
 use Rattle.promises.proofs.ExactlyWhen.{exactly-when}
@@ -90,3 +91,29 @@ module _ (i : Input) where
   -- untouched on the early numbers, and zeroed after 0, 10 and 11
   pub worked-exactly-when : outcome i .worked ≡ not (early (outcome i .answer .number))
   worked-exactly-when = row-worked (exactly-when i (outcome i .answer .number) (outcome i .answer .place) .0 (refl, refl))
+
+-- ---- the pairs closed
+
+-- none where the memory was not worked in
+untouched-none : (d : Verdict) (i : Input) → outcomeBy d i .worked ≡ false → outcomeBy d i .answer .closed ≡ noneClosed
+unfolding outcomeBy
+untouched-none (Refused n p) i e = refl
+untouched-none Copied i e = absurd (false≢true (sym e))
+untouched-none Admitted i e = by-test (stuck i) (λ t. absurd (false≢true (sym (rw t at e)))) (λ t. absurd (false≢true (sym (rw t at e))))
+
+-- so on the early numbers all three counts are zero
+pub early-none : (i : Input) → early (outcome i .answer .number) ≡ true → outcome i .answer .closed ≡ noneClosed
+unfolding outcome
+early-none i is = untouched-none (verdictOf i) i (worked-exactly-when i ∙ ap not is)
+
+-- a number that is not 0, with the memory worked in, is told where the walk is stuck
+worked-stuck : (d : Verdict) (i : Input) → outcomeBy d i .answer .number ≢ 0 → outcomeBy d i .worked ≡ true → (d ≡ Admitted) × (stuck i ≡ true)
+unfolding outcomeBy
+worked-stuck (Refused n p) i other e = absurd (false≢true e)
+worked-stuck Copied i other e = absurd (other refl)
+worked-stuck Admitted i other e = by-test (stuck i) (λ t. (refl, t)) (λ t. absurd (other (rw t)))
+
+-- so 10 and 11 are told of an input that is admitted, and whose walk is stuck
+pub late-stuck : (i : Input) → early (outcome i .answer .number) ≡ false → outcome i .answer .number ≢ 0 → (verdictOf i ≡ Admitted) × (stuck i ≡ true)
+unfolding outcome
+late-stuck i late other = worked-stuck (verdictOf i) i other (worked-exactly-when i ∙ ap not late)

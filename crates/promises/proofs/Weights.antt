@@ -172,7 +172,7 @@ module _ (limit : Limit) (bound : Float) where
       → Told (rulesOf limit bound) (s .mesh) (s .«open») a → Weighed (after (rulesOf limit bound) s a .mesh)
   unfolding after
   told-weighed s sound weighed (folded p) told = fold-weighed s sound weighed p (told .0)
-  told-weighed s sound weighed (closed p) told = weighed
+  told-weighed s sound weighed (closed p reason) told = weighed
   told-weighed s sound weighed ended told = weighed
 
   -- after any number of steps

@@ -8,7 +8,8 @@ use Rattle.placement.specs.declared.pair.Vertex.{Vertex}
 use Rattle.walk.specs.declared.Face.{Face}
 use Rattle.walk.specs.declared.Pair.{Pair}
 use Rattle.walk.specs.Faces.{facesOf, borderPoint, dataOf}
-use Rattle.walk.specs.Walk.{walk, foldList, State, StepAnswer, answer, budget, plainMachine}
+use Rattle.walk.specs.declared.Reason.{Reason}
+use Rattle.walk.specs.Walk.{walk, foldList, reasonList, State, StepAnswer, answer, budget, plainMachine}
 use Rattle.meaning.specs.Input.{Input, pointsIn, facesIn}
 use Rattle.meaning.specs.Start.{inMargin}
 use Rattle.meaning.specs.Outcome.{rulesIn, startOf, targetOf}
@@ -24,6 +25,10 @@ answerAt i n = answer (rulesIn i) (targetOf i) (stateAt i n)
 -- the folds of the first n steps, in order
 abbrev pub foldsTo : Input → ℕ → List Pair
 foldsTo i n = foldList (plainMachine (rulesIn i) (targetOf i)) n (startOf i)
+
+-- why pairs were closed in the first n steps, in order
+abbrev pub reasonsTo : Input → ℕ → List Reason
+reasonsTo i n = reasonList (plainMachine (rulesIn i) (targetOf i)) n (startOf i)
 
 -- the number of steps that the outcome is defined by
 abbrev pub budgetOf : Input → ℕ

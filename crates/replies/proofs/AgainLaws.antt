@@ -17,7 +17,7 @@ use Rattle.units.specs.declared.Unit.{Unit}
 use Rattle.units.specs.Units.{unitNumber, unitBound}
 use Rattle.units.proofs.UnitLaws.{unit-of-number, number-known}
 use Rattle.meaning.specs.Input.{Input}
-use Rattle.meaning.specs.Outcome.{Outcome, outcomeBy, outcome}
+use Rattle.meaning.specs.Outcome.{Outcome, outcomeBy, outcome, noneClosed}
 use Rattle.promises.specs.Finite.{small}
 use Rattle.promises.proofs.Finite.{outcome-finite}
 use Rattle.checks.specs.Facts.{Copiable}
@@ -91,7 +91,7 @@ module _ {unit : Unit} {points : List Float} {faces : List ℕ} (whole : Whole u
   }
 
   -- and its reply is the mesh itself, with no fold
-  copied-told : (wanted : Wanted) → outcomeTold wanted unit (outcome (writtenCall unit points faces)) ≡ mesh (meshBytes wanted unit 0 points faces)
+  copied-told : (wanted : Wanted) → outcomeTold wanted unit (outcome (writtenCall unit points faces)) ≡ mesh (meshBytes wanted unit 0 points faces) noneClosed
   unfolding outcome outcomeBy
   copied-told wanted = ap (λ (d : Verdict). outcomeTold wanted unit (outcomeBy d (writtenCall unit points faces))) (is-copied _ copiable)
 
@@ -127,7 +127,7 @@ module _ (bytes : List ℕ) (h : Head) (good : scanOf bytes ≡ Good h) where
 -- a face, which no refusal has: an empty mesh would be refused by 4.
 pub written-again : (wanted : Wanted) (bytes : List ℕ) (h : Head) → scanOf bytes ≡ Good h → 0 < scanOutcome bytes h .answer .faces →
     replyOf wanted (scanBytes (unitNumber (h .unit)) (scanOutcome bytes h .points) (scanOutcome bytes h .faces))
-    ≡ mesh (meshBytes wanted (h .unit) 0 (scanOutcome bytes h .points) (scanOutcome bytes h .faces))
+    ≡ mesh (meshBytes wanted (h .unit) 0 (scanOutcome bytes h .points) (scanOutcome bytes h .faces)) noneClosed
 unfolding replyOf replyBy numbersFrom
 written-again wanted bytes h good some =
     let o = scanOutcome bytes h in

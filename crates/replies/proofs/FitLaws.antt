@@ -43,7 +43,7 @@ use Rattle.meaning.specs.Arithmetic.{mergedVertex, rulesOf}
 use Rattle.meaning.specs.Start.{startMesh}
 use Rattle.meaning.specs.Input.{Input, pointsIn, facesIn}
 use Rattle.meaning.specs.Answers.{verdictOf}
-use Rattle.meaning.specs.Outcome.{Outcome, rulesIn, startOf, targetOf, lastMesh, partsIn, stuck, fixedIn, stuckAnswer, thinnedOutcome, outcomeBy, outcome}
+use Rattle.meaning.specs.Outcome.{Outcome, rulesIn, startOf, targetOf, lastMesh, partsIn, stuck, fixedIn, stuckAnswer, thinnedOutcome, outcomeBy, outcome, closedWalked}
 use Rattle.promises.specs.Steps.{stateAt, budgetOf}
 use Rattle.promises.proofs.Ended.{start-count, start-sound, states-sound, states-points}
 use Rattle.checks.proofs.VerdictLaws as verdicts
@@ -134,7 +134,7 @@ module _ (i : Input) where
   after-single s (folded p) all =
       every-set singleVertex (s .mesh .points) (p .keep) (mergedOf (rulesIn i) (s .mesh) p) all
       (merged-single _ _ (data-single (s .mesh) all (p .keep)) (data-single (s .mesh) all (p .remove)))
-  after-single s (closed p) all = all
+  after-single s (closed p reason) all = all
   after-single s ended all = all
 
   -- the parts of points of a mesh
@@ -226,7 +226,7 @@ module _ (i : Input) (all : every single (i .points) ≡ true) where
     where
       by : (held : Bool) →
           Fit (length (i .points)) (length (i .faces))
-          (cond held (record { answer = stuckAnswer (fixedIn i); points = []; faces = []; worked = true }) (thinnedOutcome i))
+          (cond held (record { answer = stuckAnswer (fixedIn i) (closedWalked i); points = []; faces = []; worked = true }) (thinnedOutcome i))
       by true = record { points-most = omega arith; faces-most = omega arith; points-some = λ h. h; floats = refl }
       by false = thinned-fit e
 

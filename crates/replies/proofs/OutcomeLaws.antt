@@ -15,7 +15,8 @@ use Rattle.meaning.specs.Input.{Input}
 use Rattle.meaning.specs.Answers.{verdictOf}
 use Rattle.meaning.proofs.PartsLaws.{parts-length}
 use Rattle.checks.proofs.VerdictLaws as verdicts
-use Rattle.meaning.specs.Outcome.{Outcome, rulesIn, lastMesh, stuck, fixedIn, refusal, stuckAnswer, thinnedOutcome, outcomeBy, outcome}
+use Rattle.walk.specs.declared.Closings.{Closings}
+use Rattle.meaning.specs.Outcome.{Outcome, rulesIn, lastMesh, stuck, fixedIn, withoutMesh, stuckAnswer, thinnedOutcome, outcomeBy, outcome, closedWalked}
 
 pub record Counted (o : Outcome) : Type 0 where
   pub points : length (o .points) ≡ 3 * o .answer .points
@@ -33,10 +34,10 @@ thinned-counted i =
 
 -- ---- a walk that is stuck
 
-stuck-counted : (fixed : ℕ) → Counted (record { answer = stuckAnswer fixed; points = []; faces = []; worked = true })
-stuck-counted fixed = by (ltb 0 fixed)
+stuck-counted : (fixed : ℕ) (closed : Closings) → Counted (record { answer = stuckAnswer fixed closed; points = []; faces = []; worked = true })
+stuck-counted fixed closed = by (ltb 0 fixed)
   where
-    by : (held : Bool) → Counted (record { answer = cond held (refusal 10 fixed) (refusal 11 0); points = []; faces = []; worked = true })
+    by : (held : Bool) → Counted (record { answer = cond held (withoutMesh 10 fixed closed) (withoutMesh 11 0 closed); points = []; faces = []; worked = true })
     by true = record { points = refl; faces = refl }
     by false = record { points = refl; faces = refl }
 
@@ -50,8 +51,8 @@ by-verdict Copied i e =
     record { points = sized .points-by-three; faces = sized .faces-by-three }
 by-verdict Admitted i e = by (stuck i)
   where
-    by : (held : Bool) → Counted (cond held (record { answer = stuckAnswer (fixedIn i); points = []; faces = []; worked = true }) (thinnedOutcome i))
-    by true = stuck-counted (fixedIn i)
+    by : (held : Bool) → Counted (cond held (record { answer = stuckAnswer (fixedIn i) (closedWalked i); points = []; faces = []; worked = true }) (thinnedOutcome i))
+    by true = stuck-counted (fixedIn i) (closedWalked i)
     by false = thinned-counted i
 
 pub counted : (i : Input) → Counted (outcome i)

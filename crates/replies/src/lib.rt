@@ -1,18 +1,18 @@
 // From a file's bytes to the reply: what is written is determined by what was read, as replyOf of specs/Replies.antt says.
 // A file has at most 128 points, 256 faces and 128 margin points, and no buffer is larger than 64 KiB.
 ghost use mathlib.Core.Path.{_≡_};
-ghost use Prim.Native.Nat.{_*_, _≤_};
+ghost use Prim.Native.Nat.{_+_, _*_, _≤_};
 ghost use lib.ListN.{length, take};
 ghost use Rattle.scanfile.specs.declared.Scan.the-variants.{Good};
 ghost use Rattle.scanfile.specs.Scans.{scanOf};
-ghost use Rattle.meaning.specs.Outcome.{outcome};
+ghost use Rattle.meaning.specs.Outcome.{outcome, noneClosed};
 ghost use Rattle.lists.specs.Puts.{Put};
 ghost use Rattle.listing.specs.Texts.{meshText};
 ghost use Rattle.units.specs.Units.{unitNumber};
 ghost use Rattle.scanwriter.specs.Written.{scanBytes};
 ghost use Rattle.replies.specs.declared.Wanted.the-variants.{Listing, File};
-ghost use Rattle.replies.specs.Replies.{mesh, refusal, meshBytes, answerTold, callOf, outcomeTold, replyBy, replyOf, complaint};
-ghost use Rattle.replies.specs.Contracts.{sizeIn, Replied, Small, Shown};
+ghost use Rattle.replies.specs.Replies.{mesh, refused, closedLine, meshBytes, answerTold, callOf, outcomeTold, replyBy, replyOf, complaint};
+ghost use Rattle.replies.specs.Contracts.{sizeIn, Replied, RepliedWhy, Small, Shown};
 use listing::Printed;
 use meaning::Answer;
 use meaning::Options;
@@ -21,6 +21,7 @@ use scanfile::Scan;
 use scanwriter::Writing;
 use units::Unit;
 use units::unit_number;
+use walk::Closings;
 use walking::Engine;
 
 // What is asked for: document 01's listing, or a scan file.
@@ -30,10 +31,10 @@ pub enum Wanted {
 }
 
 // What stands at the beginning of the buffer: so many bytes of the thinned mesh, as it was asked for; or so many of a refusal's line, with
-// its number and place.
+// its number and place. And of either the pairs closed by reason.
 pub enum Reply {
-    Mesh(usize),
-    Refusal(usize, u32, u32),
+    Mesh(usize, Closings),
+    Refusal(usize, u32, u32, Closings),
 }
 
 // ---- memory, of which only the lengths matter
@@ -107,33 +108,40 @@ fn size_in(printed: Printed) -> usize
 }
 
 // Writes the line of a refusal.
-fn write_refusal(out: &mut [u8], wanted: Wanted, number: u32, place: u32) -> Reply
+fn write_refusal(out: &mut [u8], wanted: Wanted, number: u32, place: u32, closed: Closings) -> Reply
     requires { ⌜ 12288 ≤ length (now out) ⌝ }
-    ensures { λ r. ⌜ Replied wanted (refusal number place) (now (out .entry)) (now (out .exit)) r ⌝ }
+    ensures { λ r. ⌜ Replied wanted (refused number place closed) (now (out .entry)) (now (out .exit)) r ⌝ }
 {
     let size = size_in(listing::list_refusal(out, number, place));
-    Reply::Refusal(size, number, place)
+    Reply::Refusal(size, number, place, closed)
 }
 
 // Writes the listing of a mesh.
-fn write_listing(out: &mut [u8], unit: Unit, folds: u32, points: &[f32], faces: &[u32]) -> Reply
+fn write_listing(
+    out: &mut [u8],
+    unit: Unit,
+    folds: u32,
+    closed: Closings,
+    points: &[f32],
+    faces: &[u32],
+) -> Reply
     requires { ⌜ 12288 ≤ length (now out) ⌝ ∗ ⌜ Small (now points) (now faces) ⌝ }
-    ensures { λ r. ⌜ Replied Listing (mesh (meshText (unitNumber unit) folds (now (points .entry)) (now (faces .entry)))) (now (out .entry)) (now (out .exit)) r ⌝ }
+    ensures { λ r. ⌜ Replied Listing (mesh (meshText (unitNumber unit) folds (now (points .entry)) (now (faces .entry))) closed) (now (out .entry)) (now (out .exit)) r ⌝ }
 {
     let number = unit_number(unit);
     let size = size_in(listing::list_mesh(out, number, folds, points, faces));
-    Reply::Mesh(size)
+    Reply::Mesh(size, closed)
 }
 
 // Writes the file of a mesh. It fits, so the writer does not refuse.
-fn write_file(out: &mut [u8], unit: Unit, points: &[f32], faces: &[u32]) -> Reply
+fn write_file(out: &mut [u8], unit: Unit, closed: Closings, points: &[f32], faces: &[u32]) -> Reply
     requires { ⌜ 12288 ≤ length (now out) ⌝ ∗ ⌜ Small (now points) (now faces) ⌝ }
-    ensures { λ r. ⌜ Replied File (mesh (scanBytes (unitNumber unit) (now (points .entry)) (now (faces .entry)))) (now (out .entry)) (now (out .exit)) r ⌝ }
+    ensures { λ r. ⌜ Replied File (mesh (scanBytes (unitNumber unit) (now (points .entry)) (now (faces .entry))) closed) (now (out .entry)) (now (out .exit)) r ⌝ }
 {
     let number = unit_number(unit);
     match scanwriter::write_scan(number, points, faces, out) {
-        Writing::Bytes(n) => Reply::Mesh(n),
-        Writing::Refused(number, place) => Reply::Refusal(0, number, place),
+        Writing::Bytes(n) => Reply::Mesh(n, closed),
+        Writing::Refused(number, place) => Reply::Refusal(0, number, place, closed),
     }
 }
 
@@ -143,15 +151,16 @@ fn write_mesh(
     wanted: Wanted,
     unit: Unit,
     folds: u32,
+    closed: Closings,
     points: &[f32],
     faces: &[u32],
 ) -> Reply
     requires { ⌜ 12288 ≤ length (now out) ⌝ ∗ ⌜ Small (now points) (now faces) ⌝ }
-    ensures { λ r. ⌜ Replied wanted (mesh (meshBytes wanted unit folds (now (points .entry)) (now (faces .entry)))) (now (out .entry)) (now (out .exit)) r ⌝ }
+    ensures { λ r. ⌜ Replied wanted (mesh (meshBytes wanted unit folds (now (points .entry)) (now (faces .entry))) closed) (now (out .entry)) (now (out .exit)) r ⌝ }
 {
     match wanted {
-        Wanted::Listing => write_listing(out, unit, folds, points, faces),
-        Wanted::File => write_file(out, unit, points, faces),
+        Wanted::Listing => write_listing(out, unit, folds, closed, points, faces),
+        Wanted::File => write_file(out, unit, closed, points, faces),
     }
 }
 
@@ -167,8 +176,9 @@ fn write_answer(
     requires { ⌜ 12288 ≤ length (now out) ⌝ ∗ ⌜ Shown answer (now points) (now faces) ⌝ }
     ensures { λ r. ⌜ Replied wanted (answerTold wanted unit answer (take (3 * answer .points) (now (points .entry))) (take (3 * answer .faces) (now (faces .entry)))) (now (out .entry)) (now (out .exit)) r ⌝ }
 {
+    let closed = answer.closed;
     if answer.number != 0 {
-        return write_refusal(out, wanted, answer.number, answer.place);
+        return write_refusal(out, wanted, answer.number, answer.place, closed);
     }
     let points_end = 3 * answer.points as usize;
     let faces_end = 3 * answer.faces as usize;
@@ -177,6 +187,7 @@ fn write_answer(
         wanted,
         unit,
         answer.folds,
+        closed,
         &points[..points_end],
         &faces[..faces_end],
     )
@@ -250,14 +261,50 @@ fn write_good(out: &mut [u8], wanted: Wanted, bytes: &[u8], head: Head) -> Reply
     )
 }
 
+// No pair is closed where a file is refused.
+fn none_closed() -> Closings
+    ensures { λ r. ⌜ r ≡ noneClosed ⌝ }
+{
+    Closings {
+        unlinked: 0,
+        squashed: 0,
+        turned: 0,
+    }
+}
+
 // Writes the reply to a file.
 pub fn write_reply(out: &mut [u8], wanted: Wanted, bytes: &[u8]) -> Reply
     requires { ⌜ 12288 ≤ length (now out) ⌝ }
     ensures { λ r. ⌜ Replied wanted (replyOf wanted (now (bytes .entry))) (now (out .entry)) (now (out .exit)) r ⌝ }
 {
     match scanfile::read_scan(bytes) {
-        Scan::Bad(number, place) => write_refusal(out, wanted, number, place),
+        Scan::Bad(number, place) => write_refusal(out, wanted, number, place, none_closed()),
         Scan::Good(head) => write_good(out, wanted, bytes, head),
+    }
+}
+
+// Writes the line of the pairs closed.
+fn put_why(out: &mut [u8], at: usize, closed: Closings) -> usize
+    requires { ⌜ at + 70 ≤ length (now out) ⌝ }
+    ensures { λ r. ⌜ Put 70 (closedLine closed) at (now (out .entry)) (now (out .exit)) r ⌝ }
+{
+    listing::put_closed(out, at, closed.unlinked, closed.squashed, closed.turned)
+}
+
+// Writes the reply to a file, with the line of the pairs closed after it.
+pub fn write_why(out: &mut [u8], bytes: &[u8]) -> Reply
+    requires { ⌜ 12288 ≤ length (now out) ⌝ }
+    ensures { λ r. ⌜ RepliedWhy (replyOf Listing (now (bytes .entry))) (now (out .entry)) (now (out .exit)) r ⌝ }
+{
+    match write_reply(out, Wanted::Listing, bytes) {
+        Reply::Mesh(n, closed) => {
+            let size = put_why(out, n, closed);
+            Reply::Mesh(size, closed)
+        }
+        Reply::Refusal(n, number, place, closed) => {
+            let size = put_why(out, n, closed);
+            Reply::Refusal(size, number, place, closed)
+        }
     }
 }
 

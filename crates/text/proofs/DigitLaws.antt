@@ -9,7 +9,7 @@ use lib.Dec.{ltb}
 use lib.ListN.{length, set, length-append}
 use lib.Seq.{sets}
 use borrow.Author.Tests.{lt-ltb, le-ltb}
-use Rattle.text.specs.Digits.{glyph, digits, digitCount, decimal}
+use Rattle.text.specs.Digits.{glyph, digits, digitCount, decimal, longDecimal}
 use Rattle.lists.specs.Puts.{Put}
 use Rattle.lists.proofs.PutLaws.{last-first, wider}
 
@@ -29,7 +29,7 @@ digit-more base (suc k) n at old some =
     let less : suc k - 1 ≡ k = omega arith in
     rw less (last-first (digits base k (n / base)) old at k (glyph (n % base)) (digits-length base k (n / base)))
 
--- a number has at most ten digits
+-- no more digits are counted than are asked for
 pub digit-count-most : (k n : ℕ) → digitCount k n ≤ k + 1
 unfolding digitCount
 digit-count-most zero n = omega arith
@@ -58,8 +58,14 @@ next-place (suc k) n some large =
     rw (le-ltb n 10 large, less)
 
 -- as many digits as a number has, stored, are the number in decimal
+counted-stored : (most n : ℕ) {k at r : ℕ} {old new : List ℕ} → k ≡ digitCount most n → Put k (digits 10 k n) at old new r →
+    Put (most + 1) (digits 10 (digitCount most n) n) at old new r
+counted-stored most n counted done = wider (digit-count-most most n) (rw counted at done)
+
 pub decimal-stored : (n : ℕ) {k at r : ℕ} {old new : List ℕ} → k ≡ digitCount 9 n → Put k (digits 10 k n) at old new r → Put 10 (decimal n) at old new r
 unfolding decimal
-decimal-stored n counted done =
-    let few : digitCount 9 n ≤ 10 = digit-count-most 9 n in
-    wider few (rw counted at done)
+decimal-stored n = counted-stored 9 n
+
+pub long-stored : (n : ℕ) {k at r : ℕ} {old new : List ℕ} → k ≡ digitCount 19 n → Put k (digits 10 k n) at old new r → Put 20 (longDecimal n) at old new r
+unfolding longDecimal
+long-stored n = counted-stored 19 n

@@ -4,8 +4,8 @@ use Prim.Native.Nat.{ℕ, zero, suc, _+_, _*_, _≤_}
 use native.Mathlib.Omega.{arith}
 use mathlib.Core.List.{List, [], _∷_, _++_}
 use lib.ListN.{length, length-append}
-use Rattle.text.specs.Digits.{decimal, hexadecimal, digitCount}
-use Rattle.text.specs.Lines.{numberThen, wordLine, linesTo}
+use Rattle.text.specs.Digits.{decimal, longDecimal, hexadecimal, digitCount}
+use Rattle.text.specs.Lines.{numberThen, longThen, wordLine, linesTo}
 use Rattle.text.proofs.DigitLaws.{digits-length, digit-count-most}
 
 -- a text of at most so many bytes
@@ -23,11 +23,18 @@ pub decimal-within : (n : ℕ) → NoLonger 10 (decimal n)
 unfolding decimal
 decimal-within n = record { bytes = omega (arith, digits-length 10 (digitCount 9 n) n, digit-count-most 9 n) }
 
+pub long-within : (n : ℕ) → NoLonger 20 (longDecimal n)
+unfolding longDecimal
+long-within n = record { bytes = omega (arith, digits-length 10 (digitCount 19 n) n, digit-count-most 19 n) }
+
 pub hexadecimal-within : (n : ℕ) → NoLonger 8 (hexadecimal n)
 hexadecimal-within n = record { bytes = omega (arith, digits-length 16 8 n) }
 
 pub number-within : (n end : ℕ) → NoLonger 11 (numberThen n end)
 number-within n end = two-within (decimal-within n) (word-within (end ∷ []))
+
+pub long-number-within : (n end : ℕ) → NoLonger 21 (longThen n end)
+long-number-within n end = two-within (long-within n) (word-within (end ∷ []))
 
 pub line-within : (word : List ℕ) (n : ℕ) → NoLonger (length word + 11) (wordLine word n)
 line-within word n = two-within (word-within word) (number-within n 10)

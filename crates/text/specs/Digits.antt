@@ -22,6 +22,10 @@ digitCount (suc k) n = cond (ltb n 10) 1 (digitCount k (n / 10) + 1)
 unfoldable pub decimal : ℕ → List ℕ
 decimal n = digits 10 (digitCount 9 n) n
 
+-- a u64 likewise: at most twenty
+unfoldable pub longDecimal : ℕ → List ℕ
+longDecimal n = digits 10 (digitCount 19 n) n
+
 -- a u32 in hexadecimal, eight digits
 abbrev pub hexadecimal : ℕ → List ℕ
 hexadecimal n = digits 16 8 n

@@ -1,11 +1,14 @@
 -- Lines of text.
 use Prim.Native.Nat.{ℕ, zero, suc}
 use mathlib.Core.List.{List, [], _∷_, _++_}
-use Rattle.text.specs.Digits.{decimal}
+use Rattle.text.specs.Digits.{decimal, longDecimal}
 
--- a number, and the byte after it
+-- a number, of a u32 and of a u64, and the byte after it
 abbrev pub numberThen : ℕ → ℕ → List ℕ
 numberThen n end = decimal n ++ (end ∷ [])
+
+abbrev pub longThen : ℕ → ℕ → List ℕ
+longThen n end = longDecimal n ++ (end ∷ [])
 
 -- a word and a number, to the end of the line
 abbrev pub wordLine : List ℕ → ℕ → List ℕ

@@ -52,19 +52,36 @@ fn read_all(descriptor: i32, name: &[u8], input: &mut [u8]) -> Got
     Got::Bytes(at)
 }
 
-// Whether a name is the one that stands for standard input.
-fn is_dash(name: &[u8]) -> bool {
-    if name.len() != 1 {
+// Whether two words are the same.
+fn is_same(word: &[u8], other: &[u8]) -> bool {
+    if word.len() != other.len() {
         return false;
     }
-    name[0] == b'-'
+    let mut i = 0;
+    while i < word.len() {
+        if word[i] != other[i] {
+            return false;
+        }
+        i += 1;
+    }
+    true
+}
+
+// Whether an argument is there, and is a word.
+pub fn is_argument(at: usize, word: &[u8]) -> bool {
+    let mut argument = io::buffer();
+    let length = os::arg(at, &mut argument);
+    if os::errno() != 0 {
+        return false;
+    }
+    is_same(&argument[..length], word)
 }
 
 // Reads the file of a name, or standard input for -.
 fn read_named(name: &[u8], input: &mut [u8]) -> Got
     ensures { λ r. ⌜ ReadIn r (now (input .entry)) (now (input .exit)) ⌝ }
 {
-    if is_dash(name) {
+    if is_same(name, b"-") {
         return read_all(STDIN_FILENO, b"standard input", input);
     }
     let descriptor = os::open_read(name);
@@ -77,15 +94,15 @@ fn read_named(name: &[u8], input: &mut [u8]) -> Got
     got
 }
 
-// Reads the file that the first argument names, or standard input where there is none.
-pub fn read_input(input: &mut [u8]) -> Got
+// Reads the file that an argument names, or standard input where there is none.
+pub fn read_input(at: usize, input: &mut [u8]) -> Got
     ensures { λ r. ⌜ ReadIn r (now (input .entry)) (now (input .exit)) ⌝ }
 {
-    if os::arg_count() < 2 {
+    if os::arg_count() <= at {
         return read_all(STDIN_FILENO, b"standard input", input);
     }
     let mut name = io::buffer();
-    let length = os::arg(1, &mut name);
+    let length = os::arg(at, &mut name);
     if os::errno() != 0 {
         complain(b"the name of the file to read");
         return Got::Failed;

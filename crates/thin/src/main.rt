@@ -1,4 +1,5 @@
-// The program: a scan file in; the thinned mesh out, as document 01's listing or as a scan file. A refusal is printed, and told in plain words.
+// The program: a scan file in; the thinned mesh out, as document 01's listing, with why pairs were closed where that is asked for, or as a scan file. A refusal
+// is printed, and told in plain words.
 ghost use mathlib.Core.Path.{_≡_};
 ghost use lib.ListN.{length};
 ghost use Rattle.replies.specs.declared.Wanted.the-variants.{File};
@@ -49,16 +50,43 @@ fn hand_out(wanted: Wanted, bytes: &[u8])
 fn answer(wanted: Wanted, bytes: &[u8]) {
     let mut out = replies::text_cells();
     match replies::write_reply(&mut out, wanted, bytes) {
-        Reply::Mesh(n) => hand_out(wanted, &out[..n]),
-        Reply::Refusal(n, number, place) => print_refusal(&out[..n], number, place),
+        Reply::Mesh(n, _) => hand_out(wanted, &out[..n]),
+        Reply::Refusal(n, number, place, _) => print_refusal(&out[..n], number, place),
     }
 }
 
-// Reads a file, and answers it.
-fn main() {
+// Answers a file, with the line of the pairs closed.
+fn answer_why(bytes: &[u8]) {
+    let mut out = replies::text_cells();
+    match replies::write_why(&mut out, bytes) {
+        Reply::Mesh(n, _) => files::print(&out[..n]),
+        Reply::Refusal(n, number, place, _) => print_refusal(&out[..n], number, place),
+    }
+}
+
+// Reads the file that the second argument names, and answers it with why.
+fn main_why() {
     let mut input = replies::input_cells();
-    match files::read_input(&mut input) {
+    match files::read_input(2, &mut input) {
+        Got::Bytes(n) => answer_why(&input[..n]),
+        Got::Failed => {}
+    }
+}
+
+// Reads the file that the first argument names, and answers it as it is asked for.
+fn main_plain() {
+    let mut input = replies::input_cells();
+    match files::read_input(1, &mut input) {
         Got::Bytes(n) => answer(wanted(), &input[..n]),
         Got::Failed => {}
+    }
+}
+
+// Whether the first argument asks why decides.
+fn main() {
+    if files::is_argument(1, b"--why") {
+        main_why();
+    } else {
+        main_plain();
     }
 }

@@ -15,7 +15,7 @@ use Rattle.meaning.specs.declared.Options.{Options}
 use Rattle.meaning.specs.declared.Verdict.the-variants.{Admitted}
 use Rattle.meaning.specs.Input.{Input, pointsIn, facesIn}
 use Rattle.meaning.specs.Answers.{verdictOf}
-use Rattle.meaning.specs.Outcome.{startOf, targetOf, lastMesh, foldsWalked, Outcome, foldsBy, foldsOf}
+use Rattle.meaning.specs.Outcome.{startOf, targetOf, lastMesh, foldsWalked, closedWalked, Outcome, foldsBy, foldsOf}
 use Rattle.meaning.specs.Call.{Lent, lent, inputOf, Leaves}
 use Rattle.walking.specs.declared.Came.{Came}
 use Rattle.walking.specs.declared.Engine.{Engine}
@@ -82,7 +82,7 @@ pub same-walk : (points : List Float) (faces margin : List ℕ) (options : Optio
     {engine : Engine} {u u' : List ℕ} {p q p' q' : List Float} {folds folds' : List ℕ} {came : Came} →
     MeshWalked engine (inputWalked points faces margin options) u p q u' p' q' folds folds' came →
     MeshWalked engine (inputOf points faces margin options before) u p q u' p' q' folds folds' came
-unfolding lastMesh foldsWalked startOf targetOf
+unfolding lastMesh foldsWalked closedWalked startOf targetOf
 same-walk points faces margin options before walked = record {
   walked =
       record {
@@ -101,6 +101,7 @@ same-walk points faces margin options before walked = record {
   fixed-few = walked .fixed-few;
   folds-made = walked .folds-made;
   folds-few = walked .folds-few;
+  closed-counted = walked .closed-counted;
   folds-listed = walked .folds-listed;
 }
 

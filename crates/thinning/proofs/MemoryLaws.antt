@@ -13,6 +13,7 @@ use mir.Syntax.{w32}
 use mir.Val.{Fits}
 use borrow.Author.Tests.{ltb-true}
 use Rattle.placement.specs.declared.pair.Vertex.{Vertex}
+use Rattle.walk.specs.declared.Closings.{Closings}
 use Rattle.lists.specs.Lists.{every, those, below}
 use Rattle.walk.specs.Faces.{Rules, faceAt}
 use Rattle.walk.specs.Output.{used}
@@ -70,11 +71,11 @@ pub parts-written : (rules : Rules Vertex) {v f : ℕ} {w : List ℕ} (p q : Lis
 parts-written rules {v} {f} {w} p q tidy = parts-same rules v f w p q (used [] (liveFaces f w)) (used-below tidy)
 
 -- what was written is the outcome of the mesh in memory
-pub written-finished : {v f : ℕ} (folds : ℕ) {w w' : List ℕ} {p points points' : List Float} {faces faces' : List ℕ} {r : Counts} →
+pub written-finished : {v f : ℕ} (folds : ℕ) (closed : Closings) {w w' : List ℕ} {p points points' : List Float} {faces faces' : List ℕ} {r : Counts} →
     MeshWritten v f w p points faces w' points' faces' r →
-    Finished v f (thinnedIn f folds w p) w points faces w' points' faces'
-    (record { number = 0; place = 0; points = r .points; faces = r .faces; folds = folds })
-written-finished folds out =
+    Finished v f (thinnedIn f folds closed w p) w points faces w' points' faces'
+    (record { number = 0; place = 0; points = r .points; faces = r .faces; folds = folds; closed = closed })
+written-finished folds closed out =
     record {
       but = out .but;
       answered = rw (out .points-counted, out .faces-counted);

@@ -9,6 +9,7 @@ use lib.Ieee.{Float}
 use lib.ListN.{length}
 use Rattle.lists.proofs.TestLaws.{by-test}
 use Rattle.placement.specs.declared.pair.Vertex.{Vertex}
+use Rattle.walk.specs.declared.Closings.{Closings}
 use Rattle.walk.specs.declared.Face.{Face}
 use Rattle.walk.specs.Faces.{Mesh}
 use Rattle.walk.specs.Output.{used, renumbered, numbersOf}
@@ -25,21 +26,21 @@ use Rattle.walking.specs.Contracts.{MeshWalked}
 use Rattle.thinning.specs.Contracts.{stuckOutcome, outcomeIn}
 use Rattle.thinning.proofs.MemoryLaws.{parts-written}
 
--- ---- from the last mesh to the outcome, which hangs on the target, the fixed points, the folds, the faces left and the parts of their points
+-- ---- from the last mesh to the outcome, which hangs on the target, the fixed points, the folds, the pairs closed, the faces left and the parts of their points
 
-abbrev outcomeFrom : ℕ → ℕ → ℕ → ℕ → List Face → List Float → Outcome
-outcomeFrom f target fixed folds faces parts =
-    cond (eqb folds 0 && ltb target f) (stuckOutcome fixed)
+abbrev outcomeFrom : ℕ → ℕ → ℕ → ℕ → Closings → List Face → List Float → Outcome
+outcomeFrom f target fixed folds closed faces parts =
+    cond (eqb folds 0 && ltb target f) (stuckOutcome fixed closed)
     (record {
-      answer = record { number = 0; place = 0; points = length (used [] faces); faces = length faces; folds = folds };
+      answer = record { number = 0; place = 0; points = length (used [] faces); faces = length faces; folds = folds; closed = closed };
       points = parts;
       faces = numbersOf (renumbered faces);
       worked = true;
     })
 
-same-outcome : (f : ℕ) {t t' b b' n n' : ℕ} {fs fs' : List Face} {ps ps' : List Float} →
-    t ≡ t' → b ≡ b' → n ≡ n' → fs ≡ fs' → ps ≡ ps' → outcomeFrom f t b n fs ps ≡ outcomeFrom f t' b' n' fs' ps'
-same-outcome f e1 e2 e3 e4 e5 = rw (e1, e2, e3, e4, e5)
+same-outcome : (f : ℕ) {t t' b b' n n' : ℕ} {c c' : Closings} {fs fs' : List Face} {ps ps' : List Float} →
+    t ≡ t' → b ≡ b' → n ≡ n' → c ≡ c' → fs ≡ fs' → ps ≡ ps' → outcomeFrom f t b n c fs ps ≡ outcomeFrom f t' b' n' c' fs' ps'
+same-outcome f e1 e2 e3 e4 e5 e6 = rw (e1, e2, e3, e4, e5, e6)
 
 -- it works in the memory
 pub outcome-worked : (f : ℕ) (came : Came) (u : List ℕ) (p : List Float) → outcomeIn f came u p .worked ≡ true
@@ -54,5 +55,5 @@ outcome-is i {w = w} {p = p} {q = q} verdict walked =
     let parts : partsOf p (used [] (liveFaces (facesIn i) w)) ≡ partsIn (rulesIn i) (lastMesh i) (used [] (lastMesh i .faces)) =
     parts-written (rulesIn i) p q (walked .tidy)
     ∙ ap₂ (λ (m : Mesh Vertex) (fs : List Face). partsIn (rulesIn i) m (used [] fs)) (walked .last-mesh) same in
-    same-outcome (facesIn i) (walked .aim) (walked .fixed-counted) (walked .folds-made) same parts
+    same-outcome (facesIn i) (walked .aim) (walked .fixed-counted) (walked .folds-made) (walked .closed-counted) same parts
     ∙ ap (λ (d : Verdict). outcomeBy d i) (sym verdict)

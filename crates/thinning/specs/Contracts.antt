@@ -15,7 +15,8 @@ use Rattle.memory.specs.Memory.{liveFaces}
 use Rattle.memory.specs.Points.{partsOf}
 use Rattle.mesh.specs.Contracts.Chains.{Tidy}
 use Rattle.meaning.specs.declared.Answer.{Answer}
-use Rattle.meaning.specs.Outcome.{Outcome, stuckAnswer}
+use Rattle.meaning.specs.Outcome.{Outcome, stuckAnswer, noneClosed}
+use Rattle.walk.specs.declared.Closings.{Closings}
 use Rattle.meaning.specs.Call.{Lent, leftAs}
 use Rattle.walking.specs.declared.Came.{Came}
 use Rattle.walking.specs.Contracts.{Working}
@@ -44,7 +45,7 @@ pub record Standing (v f : ℕ) (came : Came) (before : Lent) : Type 0 where
 -- the mesh copied unchanged
 abbrev pub copyOf : ℕ → ℕ → List Float → List ℕ → Outcome
 copyOf v f points faces =
-    record { answer = record { number = 0; place = 0; points = v; faces = f; folds = 0 }; points = points; faces = faces; worked = true }
+    record { answer = record { number = 0; place = 0; points = v; faces = f; folds = 0; closed = noneClosed }; points = points; faces = faces; worked = true }
 
 -- the stated part of the work memory all zero, and the rest as it came
 pub record Zeroed (v f : ℕ) (u : List ℕ) (p q : List Float) (u' : List ℕ) (p' q' : List Float) : Type 0 where
@@ -53,15 +54,15 @@ pub record Zeroed (v f : ℕ) (u : List ℕ) (p q : List Float) (u' : List ℕ) 
   pub f64s : q' ≡ leftAs true (f64sNeeded v f) nought q
 
 -- the outcome where the walk is stuck: nothing is written
-abbrev pub stuckOutcome : ℕ → Outcome
-stuckOutcome fixed = record { answer = stuckAnswer fixed; points = []; faces = []; worked = true }
+abbrev pub stuckOutcome : ℕ → Closings → Outcome
+stuckOutcome fixed closed = record { answer = stuckAnswer fixed closed; points = []; faces = []; worked = true }
 
 -- the outcome of the mesh that stands in memory: the live faces in face order, points numbered by first use
-abbrev pub thinnedIn : ℕ → ℕ → List ℕ → List Float → Outcome
-thinnedIn f folds u p =
+abbrev pub thinnedIn : ℕ → ℕ → Closings → List ℕ → List Float → Outcome
+thinnedIn f folds closed u p =
     let faces = liveFaces f u in
     record {
-      answer = record { number = 0; place = 0; points = length (used [] faces); faces = length faces; folds = folds };
+      answer = record { number = 0; place = 0; points = length (used [] faces); faces = length faces; folds = folds; closed = closed };
       points = partsOf p (used [] faces);
       faces = numbersOf (renumbered faces);
       worked = true;
@@ -69,7 +70,7 @@ thinnedIn f folds u p =
 
 -- stuck where no fold was made and there are more faces than the target
 abbrev pub outcomeIn : ℕ → Came → List ℕ → List Float → Outcome
-outcomeIn f came u p = cond (eqb (came .folds) 0 && ltb (came .target) f) (stuckOutcome (came .fixed)) (thinnedIn f (came .folds) u p)
+outcomeIn f came u p = cond (eqb (came .folds) 0 && ltb (came .target) f) (stuckOutcome (came .fixed) (came .closed)) (thinnedIn f (came .folds) (came .closed) u p)
 
 -- an outcome is answered and written, and of the work memory at most the marks have changed
 pub record Finished (v f : ℕ) (o : Outcome)

@@ -14,13 +14,14 @@ use meaning::Answer;
 use meaning::Options;
 use meaning::Rooms;
 use meaning::Verdict;
+use walk::Closings;
 use walking::Came;
 use walking::Engine;
 use walking::walked;
 
-// A refusal has zeros in the last three.
-fn refusal(number: u32, place: u32) -> Answer
-    ensures { λ r. ⌜ r ≡ Outcomes.refusal number place ⌝ }
+// An answer without a mesh has zeros for it.
+fn without_mesh(number: u32, place: u32, closed: Closings) -> Answer
+    ensures { λ r. ⌜ r ≡ Outcomes.withoutMesh number place closed ⌝ }
 {
     Answer {
         number: number,
@@ -28,18 +29,37 @@ fn refusal(number: u32, place: u32) -> Answer
         points: 0,
         faces: 0,
         folds: 0,
+        closed,
     }
 }
 
-// 10 where points are fixed, and else 11.
-fn stuck(fixed: usize) -> Answer
+// No pair is closed where nothing is walked.
+fn none_closed() -> Closings
+    ensures { λ r. ⌜ r ≡ Outcomes.noneClosed ⌝ }
+{
+    Closings {
+        unlinked: 0,
+        squashed: 0,
+        turned: 0,
+    }
+}
+
+// A refusal before the walk.
+fn refusal(number: u32, place: u32) -> Answer
+    ensures { λ r. ⌜ r ≡ Outcomes.refusal number place ⌝ }
+{
+    without_mesh(number, place, none_closed())
+}
+
+// 10 where points are fixed, and else 11; and why pairs were closed.
+fn stuck(fixed: usize, closed: Closings) -> Answer
     requires { ⌜ fixed ≤ 65536 ⌝ }
-    ensures { λ r. ⌜ r ≡ Outcomes.stuckAnswer fixed ⌝ }
+    ensures { λ r. ⌜ r ≡ Outcomes.stuckAnswer fixed closed ⌝ }
 {
     if 0 < fixed {
-        refusal(10, fixed as u32)
+        without_mesh(10, fixed as u32, closed)
     } else {
-        refusal(11, 0)
+        without_mesh(11, 0, closed)
     }
 }
 
@@ -70,12 +90,14 @@ fn copied(
     let f = faces.len() / 3;
     output::copy_mesh(points, faces, out_points, out_faces);
     clear(w, p, q, v, f);
+    let closed = none_closed();
     Answer {
         number: 0,
         place: 0,
         points: v as u32,
         faces: f as u32,
         folds: 0,
+        closed,
     }
 }
 
@@ -92,8 +114,9 @@ fn answered(
     requires { ⌜ Tidy v f (now w) ⌝ ∗ ⌜ 3 * v ≤ length (now p) ⌝ ∗ ⌜ 3 * v ≤ length (now «out_points») ⌝ ∗ ⌜ 3 * f ≤ length (now «out_faces») ⌝ ∗ ⌜ (came .fixed ≤ v) × (came .folds ≤ f) ⌝ }
     ensures { λ r. ⌜ Finished v f (outcomeIn f came (now (w .entry)) (now (p .entry))) (now (w .entry)) (now («out_points» .entry)) (now («out_faces» .entry)) (now (w .exit)) (now («out_points» .exit)) (now («out_faces» .exit)) r ⌝ }
 {
+    let closed = came.closed;
     if (came.folds == 0) & (came.target < f) {
-        return stuck(came.fixed);
+        return stuck(came.fixed, closed);
     }
     let counts = output::write_mesh(w, p, v, f, out_points, out_faces);
     Answer {
@@ -102,6 +125,7 @@ fn answered(
         points: counts.points as u32,
         faces: counts.faces as u32,
         folds: came.folds as u32,
+        closed,
     }
 }
 

@@ -31,7 +31,7 @@ module _ {D : Type 0} (rules : Rules D) {s t : State D} (same : SameState s t) w
         same-mesh = rw (same .same-mesh);
         same-open = rw (same .same-mesh) (bag-append (bag-those (same .same-open) (apart p)) bag-refl);
       }
-  after-bag (closed p) = record { same-mesh = same .same-mesh; same-open = bag-without-pair (same .same-open) p }
+  after-bag (closed p reason) = record { same-mesh = same .same-mesh; same-open = bag-without-pair (same .same-open) p }
   after-bag ended = same
 
   -- both in one

@@ -59,7 +59,7 @@ module _ {D : Type 0} (rules : Rules D) where
       every-both (eligiblePair rules m) (those (apart p) (s .«open»)) (opened rules m (p .keep))
       (every-those (eligiblePair rules (s .mesh)) (apart p) (apart-eligible (s .mesh) p) (s .«open») all)
       (opened-eligible m (p .keep))
-  after-eligible s (closed p) all = every-without (eligiblePair rules (s .mesh)) (samePair p) (s .«open») all
+  after-eligible s (closed p reason) all = every-without (eligiblePair rules (s .mesh)) (samePair p) (s .«open») all
   after-eligible s ended all = all
 
   -- after any number of steps

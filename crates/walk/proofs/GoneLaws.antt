@@ -105,7 +105,7 @@ module _ {D : Type 0} (rules : Rules D) where
             (every-those (misses x) (apart p) (λ q h t. h) (s .«open») (gone .no-pair))
             (opened-misses (foldedMesh rules (s .mesh) p) (p .keep) x (e .0) none);
       }
-  told-gone s x gone (closed p) told =
+  told-gone s x gone (closed p reason) told =
       record { no-face = gone .no-face; no-pair = every-without (misses x) (samePair p) (s .«open») (gone .no-pair) }
   told-gone s x gone ended told = gone
 

@@ -9,11 +9,14 @@ pub mod SamePairs
 pub mod PairLaws
 pub mod SoundLaws
 pub mod StepLaws
+pub mod ClosingLaws
 pub mod WalkLaws
 pub mod GoneLaws
 pub mod EligibleLaws
 pub mod StillLaws
 pub mod FairLaws
+pub mod FirstLaws
+pub mod NumberLaws
 pub mod LeastLaws
 pub mod BagWalk
 pub mod OpenSums

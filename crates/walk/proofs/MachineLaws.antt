@@ -3,12 +3,11 @@
 use Prim.Native.Nat.{ℕ, zero, suc, _+_, _≤_, _<_}
 use mathlib.Core.Path.{_≡_, refl, sym, _∙_, ap, ap₂}
 use mathlib.Core.Logic.{_≢_, _⊎_, ⊎-elim}
-use mathlib.Core.List.{[], _++_, append-assoc, append-nil, List·Memᴰ, List·Memᴰ·not-nil, List·Memᴰ·append-cases}
+use mathlib.Core.List.{List, [], _++_, append-assoc, append-nil, List·Memᴰ, List·Memᴰ·not-nil, List·Memᴰ·append-cases}
 use native.Mathlib.Nat.{zero-add, suc-add, le-refl, le-dest}
 use native.Mathlib.Omega.{arith}
 use lib.ListN.{length, length-append}
-use Rattle.walk.specs.declared.Pair.{Pair}
-use Rattle.walk.specs.Walk.{Machine, walk, foldList}
+use Rattle.walk.specs.Walk.{Machine, walk, collected, foldList, reasonList}
 
 -- the state after a step
 abbrev pub step : {S A : Type 0} → Machine S A → S → S
@@ -16,14 +15,16 @@ step machine s = machine .after s (machine .answer s)
 
 -- ---- what the laws ask of a machine
 
--- A machine whose walk ends. Good states stay good, and each fold takes from their size; the end changes nothing and folds nothing; before it the
--- budget falls.
+-- A machine whose walk ends. Good states stay good, and each fold takes from their size; a step closes at most one pair; the end changes nothing, folds
+-- nothing and closes nothing; before it the budget falls.
 pub record Ending {S A : Type 0} (machine : Machine S A) (Good : S → Type 0) (budget size : S → ℕ) : Type 0 where
   pub stays-good : (s : S) → Good s → Good (step machine s)
   pub fewer : (s : S) → Good s → length (machine .foldOf (machine .answer s)) + size (step machine s) ≤ size s
   pub ended-or : (a : A) → (a ≡ machine .ended) ⊎ (a ≢ machine .ended)
   pub ended-same : (s : S) → machine .after s (machine .ended) ≡ s
   pub ended-folds : machine .foldOf (machine .ended) ≡ []
+  pub ended-reasons : machine .reasonOf (machine .ended) ≡ []
+  pub one-reason : (a : A) → length (machine .reasonOf a) ≤ 1
   pub falls : (s : S) → Good s → machine .answer s ≢ machine .ended → budget (step machine s) < budget s
 
 -- States that pass for the same: those that fit answer the same and pass for the same after a step, with the same budget and size.
@@ -45,34 +46,36 @@ module _ {S A : Type 0} (machine : Machine S A) where
   walk-add zero n s = rw zero-add
   walk-add (suc m) n s = rw suc-add (walk-add m n (step machine s))
 
-  -- the folds of m steps, and then those of n
-  pub foldList-add : (m n : ℕ) (s : S) → foldList machine (m + n) s ≡ foldList machine m s ++ foldList machine n (walk machine m s)
-  unfolding walk foldList
-  foldList-add zero n s = rw zero-add
-  foldList-add (suc m) n s =
-      rw (suc-add, append-assoc) (ap (λ rest. machine .foldOf (machine .answer s) ++ rest) (foldList-add m n (step machine s)))
+  -- what m steps tell, and then what n do
+  pub collected-add : {X : Type 0} (tells : A → List X) (m n : ℕ) (s : S) →
+      collected machine tells (m + n) s ≡ collected machine tells m s ++ collected machine tells n (walk machine m s)
+  unfolding walk collected
+  collected-add tells zero n s = rw zero-add
+  collected-add tells (suc m) n s =
+      rw (suc-add, append-assoc) (ap (λ rest. tells (machine .answer s) ++ rest) (collected-add tells m n (step machine s)))
 
   -- a step more, at the end
   pub walk-last : (n : ℕ) (s : S) → walk machine (n + 1) s ≡ step machine (walk machine n s)
   unfolding walk
   walk-last n s = walk-add n 1 s
 
-  -- and its folds at the end
-  pub foldList-last : (n : ℕ) (s : S) → foldList machine (n + 1) s ≡ foldList machine n s ++ machine .foldOf (machine .answer (walk machine n s))
-  unfolding foldList
-  foldList-last n s =
-      foldList-add n 1 s ∙ ap (λ last. foldList machine n s ++ last) (append-nil (machine .foldOf (machine .answer (walk machine n s))))
+  -- and what it tells at the end
+  pub collected-last : {X : Type 0} (tells : A → List X) (n : ℕ) (s : S) →
+      collected machine tells (n + 1) s ≡ collected machine tells n s ++ tells (machine .answer (walk machine n s))
+  unfolding collected
+  collected-last tells n s =
+      collected-add tells n 1 s ∙ ap (λ last. collected machine tells n s ++ last) (append-nil (tells (machine .answer (walk machine n s))))
 
-  -- a pair of the list was folded by the answer of some step
-  pub foldList-step : (n : ℕ) (s : S) (p : Pair) → List·Memᴰ p (foldList machine n s) →
-      (k : ℕ) × (k < n) × List·Memᴰ p (machine .foldOf (machine .answer (walk machine k s)))
-  unfolding walk foldList
-  foldList-step zero s p m = absurd (List·Memᴰ·not-nil m)
-  foldList-step (suc n) s p m =
+  -- what is told on the way was told by the answer of some step
+  pub collected-step : {X : Type 0} (tells : A → List X) (n : ℕ) (s : S) (x : X) → List·Memᴰ x (collected machine tells n s) →
+      (k : ℕ) × (k < n) × List·Memᴰ x (tells (machine .answer (walk machine k s)))
+  unfolding walk collected
+  collected-step tells zero s x m = absurd (List·Memᴰ·not-nil m)
+  collected-step tells (suc n) s x m =
       ⊎-elim
       (λ now. (0, omega arith, now))
-      (λ later. let (k, small, there) = foldList-step n (step machine s) p later in (suc k, omega arith, there))
-      (List·Memᴰ·append-cases (machine .foldOf (machine .answer s)) m)
+      (λ later. let (k, small, there) = collected-step tells n (step machine s) x later in (suc k, omega arith, there))
+      (List·Memᴰ·append-cases (tells (machine .answer s)) m)
 
   -- what every step keeps is kept by the walk
   pub walk-keeps : (P : S → Type 0) → ((s : S) → P s → P (step machine s)) → (n : ℕ) (s : S) → P s → P (walk machine n s)
@@ -93,18 +96,19 @@ module _ {S A : Type 0} {machine : Machine S A} {Good : S → Type 0} {budget si
   walk-stays zero s e = refl
   walk-stays (suc n) s e = ap (walk machine n) (step-stays s e) ∙ walk-stays n s e
 
-  -- nor folds anything
-  pub foldList-stays : (n : ℕ) (s : S) → machine .answer s ≡ machine .ended → foldList machine n s ≡ []
-  unfolding foldList
-  foldList-stays zero s e = refl
-  foldList-stays (suc n) s e =
-      ap₂ _++_ (ap (machine .foldOf) e ∙ ending .ended-folds) (ap (foldList machine n) (step-stays s e) ∙ foldList-stays n s e)
+  -- nor tells anything of which the end tells nothing
+  pub collected-stays : {X : Type 0} (tells : A → List X) → tells (machine .ended) ≡ [] → (n : ℕ) (s : S) → machine .answer s ≡ machine .ended →
+      collected machine tells n s ≡ []
+  unfolding collected
+  collected-stays tells silent zero s e = refl
+  collected-stays tells silent (suc n) s e =
+      ap₂ _++_ (ap tells e ∙ silent) (ap (collected machine tells n) (step-stays s e) ∙ collected-stays tells silent n s e)
 
   -- ---- the end
 
   -- each fold has taken from the size
   pub walk-fewer : (n : ℕ) (s : S) → Good s → length (foldList machine n s) + size (walk machine n s) ≤ size s
-  unfolding walk foldList
+  unfolding walk collected
   walk-fewer zero s good = omega arith
   walk-fewer (suc n) s good =
       omega (
@@ -113,6 +117,20 @@ module _ {S A : Type 0} {machine : Machine S A} {Good : S → Type 0} {budget si
         ending .fewer s good,
         walk-fewer n (step machine s) (ending .stays-good s good),
       )
+
+  -- each pair closed has taken from the budget
+  pub walk-closes : (n : ℕ) (s : S) → Good s → length (reasonList machine n s) + budget (walk machine n s) ≤ budget s
+  unfolding walk collected
+  walk-closes zero s good = omega arith
+  walk-closes (suc n) s good =
+      let rest = walk-closes n (step machine s) (ending .stays-good s good) in
+      let both = length-append (machine .reasonOf (machine .answer s)) (reasonList machine n (step machine s)) in
+      ⊎-elim
+      (λ e.
+      let none : length (machine .reasonOf (machine .answer s)) ≡ 0 = ap (λ (a : A). length (machine .reasonOf a)) e ∙ ap length (ending .ended-reasons) in
+      omega (arith, both, none, rest, ap budget (step-stays s e)))
+      (λ on. omega (arith, both, rest, ending .one-reason (machine .answer s), ending .falls s good on))
+      (ending .ended-or (machine .answer s))
 
   -- after as many steps as the budget, or more, the answer is the end
   pub walk-ends : (n : ℕ) (s : S) → Good s → budget s ≤ n → machine .answer (walk machine n s) ≡ machine .ended
@@ -123,43 +141,58 @@ module _ {S A : Type 0} {machine : Machine S A} {Good : S → Type 0} {budget si
       (λ on. walk-ends n (step machine s) (ending .stays-good s good) (omega (arith, ending .falls s good on)))
       (ending .ended-or (machine .answer s))
 
-  -- wherever the answer is the end, more steps come to the same state and fold no more
-  pub walk-past : (k n : ℕ) (s : S) → machine .answer (walk machine k s) ≡ machine .ended → k ≤ n →
-      (walk machine n s ≡ walk machine k s) × (foldList machine n s ≡ foldList machine k s)
+  -- wherever the answer is the end, more steps come to the same state
+  pub walk-past : (k n : ℕ) (s : S) → machine .answer (walk machine k s) ≡ machine .ended → k ≤ n → walk machine n s ≡ walk machine k s
   walk-past k n s e past =
-      let more = le-dest past in (
-        ap (λ i. walk machine i s) (sym (more .1)) ∙ walk-add machine k (more .0) s ∙ walk-stays (more .0) (walk machine k s) e,
-        ap (λ i. foldList machine i s) (sym (more .1)) ∙ foldList-add machine k (more .0) s
-            ∙ ap (λ rest. foldList machine k s ++ rest) (foldList-stays (more .0) (walk machine k s) e)
-            ∙ append-nil (foldList machine k s),
-      )
+      let more = le-dest past in
+      ap (λ i. walk machine i s) (sym (more .1)) ∙ walk-add machine k (more .0) s ∙ walk-stays (more .0) (walk machine k s) e
 
-  -- any budget that is enough gives the same state and the same folds
-  pub walk-enough : (n : ℕ) (s : S) → Good s → budget s ≤ n →
-      (walk machine n s ≡ walk machine (budget s) s) × (foldList machine n s ≡ foldList machine (budget s) s)
+  -- so does any budget that is enough
+  pub walk-enough : (n : ℕ) (s : S) → Good s → budget s ≤ n → walk machine n s ≡ walk machine (budget s) s
   walk-enough n s good enough = walk-past (budget s) n s (walk-ends (budget s) s good (le-refl _)) enough
 
   -- and wherever the answer is the end, the walk has come as far as its budget takes it
-  pub walk-over : (k : ℕ) (s : S) → Good s → machine .answer (walk machine k s) ≡ machine .ended →
-      (walk machine k s ≡ walk machine (budget s) s) × (foldList machine k s ≡ foldList machine (budget s) s)
-  walk-over k s good e =
-      let past = walk-past k (k + budget s) s e (omega arith) in
-      let enough = walk-enough (k + budget s) s good (omega arith) in
-      (sym (past .0) ∙ enough .0, sym (past .1) ∙ enough .1)
+  pub walk-over : (k : ℕ) (s : S) → Good s → machine .answer (walk machine k s) ≡ machine .ended → walk machine k s ≡ walk machine (budget s) s
+  walk-over k s good e = sym (walk-past k (k + budget s) s e (omega arith)) ∙ walk-enough (k + budget s) s good (omega arith)
+
+  -- the same of what is told on the way, where the end tells nothing
+  module _ {X : Type 0} (tells : A → List X) (silent : tells (machine .ended) ≡ []) where
+    pub collected-past : (k n : ℕ) (s : S) → machine .answer (walk machine k s) ≡ machine .ended → k ≤ n →
+        collected machine tells n s ≡ collected machine tells k s
+    collected-past k n s e past =
+        let more = le-dest past in
+        ap (λ i. collected machine tells i s) (sym (more .1)) ∙ collected-add machine tells k (more .0) s
+        ∙ ap (λ rest. collected machine tells k s ++ rest) (collected-stays tells silent (more .0) (walk machine k s) e)
+        ∙ append-nil (collected machine tells k s)
+
+    pub collected-enough : (n : ℕ) (s : S) → Good s → budget s ≤ n → collected machine tells n s ≡ collected machine tells (budget s) s
+    collected-enough n s good enough = collected-past (budget s) n s (walk-ends (budget s) s good (le-refl _)) enough
+
+    pub collected-over : (k : ℕ) (s : S) → Good s → machine .answer (walk machine k s) ≡ machine .ended →
+        collected machine tells k s ≡ collected machine tells (budget s) s
+    collected-over k s good e = sym (collected-past k (k + budget s) s e (omega arith)) ∙ collected-enough (k + budget s) s good (omega arith)
 
 -- ---- from two states that pass for the same
 
 module _ {S A : Type 0} {machine : Machine S A} {Fit : S → Type 0} {Same : S → S → Type 0} {budget size : S → ℕ}
     (alike : Alike machine Fit Same budget size) where
-  -- the walks go through states that pass for the same, and fold the same pairs
-  pub walk-alike : (k : ℕ) (s t : S) → Fit s → Same s t → Same (walk machine k s) (walk machine k t) × (foldList machine k s ≡ foldList machine k t)
-  unfolding walk foldList
-  walk-alike zero s t fit same = (same, refl)
-  walk-alike (suc k) s t fit same =
-      let rest = walk-alike k (step machine s) (step machine t) (alike .stays-fit s fit) (alike .same-step fit same) in
-      (rest .0, ap₂ (λ a ps. machine .foldOf a ++ ps) (alike .same-answer fit same) (rest .1))
+  -- the walks go through states that pass for the same
+  pub walk-alike : (k : ℕ) (s t : S) → Fit s → Same s t → Same (walk machine k s) (walk machine k t)
+  unfolding walk
+  walk-alike zero s t fit same = same
+  walk-alike (suc k) s t fit same = walk-alike k (step machine s) (step machine t) (alike .stays-fit s fit) (alike .same-step fit same)
+
+  -- and tell the same
+  pub collected-alike : {X : Type 0} (tells : A → List X) (k : ℕ) (s t : S) → Fit s → Same s t → collected machine tells k s ≡ collected machine tells k t
+  unfolding collected
+  collected-alike tells zero s t fit same = refl
+  collected-alike tells (suc k) s t fit same =
+      ap₂ (λ a rest. tells a ++ rest) (alike .same-answer fit same)
+      (collected-alike tells k (step machine s) (step machine t) (alike .stays-fit s fit) (alike .same-step fit same))
 
   -- on their budgets
-  pub start-alike : {s t : S} → Fit s → Same s t →
-      Same (walk machine (budget s) s) (walk machine (budget t) t) × (foldList machine (budget s) s ≡ foldList machine (budget t) t)
+  pub start-alike : {s t : S} → Fit s → Same s t → Same (walk machine (budget s) s) (walk machine (budget t) t)
   start-alike {s} {t} fit same = rw (alike .same-budget same) (walk-alike (budget t) s t fit same)
+
+  pub told-alike : {X : Type 0} (tells : A → List X) {s t : S} → Fit s → Same s t → collected machine tells (budget s) s ≡ collected machine tells (budget t) t
+  told-alike tells {s} {t} fit same = rw (alike .same-budget same) (collected-alike tells (budget t) s t fit same)

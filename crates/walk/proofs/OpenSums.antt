@@ -6,6 +6,7 @@ use mathlib.Core.List.{map}
 use mathlib.Core.Bool.{true, _&&_, cond}
 use lib.ListN.{length}
 use Rattle.walk.specs.declared.Pair.{Pair}
+use Rattle.walk.specs.declared.Reason.{Reason}
 use Rattle.lists.specs.Lists.{sum, some, below}
 use Rattle.walk.specs.Faces.{neighbour, Rules, Mesh}
 use Rattle.walk.specs.Fold.{foldedMesh}
@@ -46,7 +47,7 @@ module _ {D : Type 0} (rules : Rules D) (s : State D) (p : Pair) where
   unfolding after
   folded-sum g = rw (sum-append, sum-those)
 
-  pub closed-sum : (g : Pair → ℕ) → some (samePair p) (s .«open») ≡ true →
-      sum g (after rules s (closed p) .«open») + g p ≡ sum g (s .«open»)
+  pub closed-sum : (reason : Reason) (g : Pair → ℕ) → some (samePair p) (s .«open») ≡ true →
+      sum g (after rules s (closed p reason) .«open») + g p ≡ sum g (s .«open»)
   unfolding after
-  closed-sum g = sum-without-pair g p (s .«open»)
+  closed-sum reason g = sum-without-pair g p (s .«open»)

@@ -13,6 +13,7 @@ use lib.ListN.{length, length-set}
 use borrow.Author.Tests.{ltb-true, lt-ltb, eqb-false, ne-eqb}
 use Rattle.walk.specs.declared.Face.{Face}
 use Rattle.walk.specs.declared.Pair.{Pair}
+use Rattle.walk.specs.declared.Reason.{Reason}
 use Rattle.lists.specs.Lists.{count, those, every, some, below}
 use Rattle.walk.specs.Faces.{both, shared, neighbour, runs, proper, Rules, Mesh}
 use Rattle.walk.specs.Fold.{foldedMesh}
@@ -103,9 +104,9 @@ module _ {D : Type 0} (rules : Rules D) where
   -- ---- a pair closed
 
   -- fewer pairs are open, and nothing else changes
-  pub close-sound : (s : State D) → Sound s → (p : Pair) → Sound (after rules s (closed p))
+  pub close-sound : (s : State D) → Sound s → (p : Pair) (reason : Reason) → Sound (after rules s (closed p reason))
   unfolding after
-  close-sound s sound p =
+  close-sound s sound p reason =
       record {
         faces-proper = sound .faces-proper;
         open-held = every-without (heldBy s) (samePair p) (s .«open») (sound .open-held);

@@ -1,15 +1,15 @@
--- A state is sound, and the walk from it folds the same pairs, in whatever order its open pairs are listed.
+-- A state is sound, and the walk from it folds the same pairs and closes others for the same reasons, in whatever order its open pairs are listed.
 -- Assumes nothing.
 use Prim.Native.Nat.{ℕ, _^_, _≤_}
 use mathlib.Core.Path.{_≡_, refl, ap, _∙_}
 use lib.ListN.{length}
 use Rattle.walk.specs.Faces.{Rules}
-use Rattle.walk.specs.Walk.{walk, foldList, State, SameState, budget, answer, plainMachine}
+use Rattle.walk.specs.Walk.{walk, foldList, reasonList, foldOf, reasonOf, State, SameState, budget, answer, plainMachine}
 use Rattle.walk.specs.Sound.{Sound, heldBy, joins}
 use Rattle.lists.proofs.BagLaws.{bag-refl, bag-trans, bag-length, bag-every, bag-count}
 use Rattle.walk.proofs.BagWalk.{answer-bag, step-bag, sound-fitting}
 use Rattle.walk.proofs.StepLaws.{step-sound}
-use Rattle.walk.proofs.MachineLaws.{Alike, start-alike}
+use Rattle.walk.proofs.MachineLaws.{Alike, start-alike, told-alike}
 use Rattle.walk.proofs.WalkLaws.{after-points, facesLeft}
 
 module _ {D : Type 0} where
@@ -55,4 +55,6 @@ module _ {D : Type 0} (rules : Rules D) (target faces : ℕ) where
   pub start-bag : {s t : State D} → SoundFew s → SameState s t →
       (walk (plainMachine rules target) (budget faces s) s .mesh ≡ walk (plainMachine rules target) (budget faces t) t .mesh)
       × (foldList (plainMachine rules target) (budget faces s) s ≡ foldList (plainMachine rules target) (budget faces t) t)
-  start-bag fit same = let both = start-alike plain-alike fit same in (both .0 .same-mesh, both .1)
+      × (reasonList (plainMachine rules target) (budget faces s) s ≡ reasonList (plainMachine rules target) (budget faces t) t)
+  start-bag fit same =
+      (start-alike plain-alike fit same .same-mesh, told-alike plain-alike foldOf fit same, told-alike plain-alike reasonOf fit same)

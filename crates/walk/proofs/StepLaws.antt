@@ -4,7 +4,7 @@ use Prim.Native.Nat.{ℕ, _+_, _*_, _≤_, _<_}
 use mathlib.Core.Path.{_≡_, refl, sym, ap, subst}
 use mathlib.Core.Logic.{_≢_}
 use mathlib.Core.List.{List, [], _∷_, List·Memᴰ, List·Memᴰ·not-nil, List·Memᴰ·eq-of-singleton}
-use mathlib.Core.Bool.{Bool, true, false, cond}
+use mathlib.Core.Bool.{cond}
 use native.Mathlib.Nat.{le-trans, mul-le-mul-right}
 use native.Mathlib.Omega.{arith}
 use lib.Dec.{leb}
@@ -12,11 +12,14 @@ use lib.ListN.{length}
 use borrow.Author.Tests.{lt-leb}
 use Rattle.walk.specs.declared.Face.{Face}
 use Rattle.walk.specs.declared.Pair.{Pair}
+use Rattle.walk.specs.declared.Reason.{Reason}
+use Rattle.walk.specs.declared.Tested.{Tested}
+use Rattle.walk.specs.declared.Tested.the-variants.{Allowed, Not}
 use Rattle.lists.specs.Lists.{sum, count}
 use Rattle.walk.specs.Faces.{both, Rules, Mesh}
 use Rattle.walk.specs.Fold.{foldedFaces, foldedMesh}
-use Rattle.walk.specs.FoldTest.{allowed}
-use Rattle.walk.specs.Walk.{State, StepAnswer, folded, closed, ended, foldOf, budget, tried, chosen, answer, after}
+use Rattle.walk.specs.FoldTest.{foldTest}
+use Rattle.walk.specs.Walk.{State, StepAnswer, folded, closed, ended, foldOf, reasonOf, toldBy, budget, tried, chosen, answer, after}
 use Rattle.walk.specs.Pairs.{samePair, least}
 use Rattle.walk.specs.Sound.{Sound, joins, heldBy}
 use Rattle.lists.proofs.TestLaws.{by-test}
@@ -68,16 +71,21 @@ weighed {weight} pairs fewer few = omega (arith, mul-le-mul-right weight fewer)
 -- ---- what an answer tells
 
 module _ {D : Type 0} (rules : Rules D) where
-  -- of the mesh and the open pairs, an answer tells that its pair is one of these, and whether it may be folded
+  -- of the mesh and the open pairs, an answer tells that its pair is one of these, and what the fold test says of it
   abbrev pub Told : Mesh D → List Pair → StepAnswer → Type 0
-  Told m ps (folded p) = (0 < count (samePair p) ps) × (allowed rules m p ≡ true)
-  Told m ps (closed p) = (0 < count (samePair p) ps) × (allowed rules m p ≡ false)
+  Told m ps (folded p) = (0 < count (samePair p) ps) × (foldTest rules m p ≡ Allowed)
+  Told m ps (closed p reason) = (0 < count (samePair p) ps) × (foldTest rules m p ≡ Not reason)
   Told m ps ended = Unit {0}
 
   -- it is so of a pair tried, of the pair chosen, and so of the answer
+  told-by : (m : Mesh D) (ps : List Pair) (p : Pair) → 0 < count (samePair p) ps → (t : Tested) → foldTest rules m p ≡ t → Told m ps (toldBy p t)
+  unfolding toldBy
+  told-by m ps p one Allowed e = (one, e)
+  told-by m ps p one (Not reason) e = (one, e)
+
   told-tried : (m : Mesh D) (ps : List Pair) (p : Pair) → 0 < count (samePair p) ps → Told m ps (tried rules m p)
   unfolding tried
-  told-tried m ps p one = by-test (allowed rules m p) (λ t. rw t (one, t)) (λ t. rw t (one, t))
+  told-tried m ps p one = told-by m ps p one (foldTest rules m p) refl
 
   told-chosen : (m : Mesh D) (ps : List Pair) → Told m ps (chosen rules m ps)
   unfolding chosen
@@ -91,12 +99,13 @@ module _ {D : Type 0} (rules : Rules D) where
 
   -- said of a folded pair, and of a closed one
   pub answer-folded :
-      (target : ℕ) (s : State D) (p : Pair) → answer rules target s ≡ folded p → isOpen s p × (allowed rules (s .mesh) p ≡ true)
+      (target : ℕ) (s : State D) (p : Pair) → answer rules target s ≡ folded p → isOpen s p × (foldTest rules (s .mesh) p ≡ Allowed)
   answer-folded target s p e = subst (Told (s .mesh) (s .«open»)) e (answer-told target s)
 
   pub answer-closed :
-      (target : ℕ) (s : State D) (p : Pair) → answer rules target s ≡ closed p → isOpen s p × (allowed rules (s .mesh) p ≡ false)
-  answer-closed target s p e = subst (Told (s .mesh) (s .«open»)) e (answer-told target s)
+      (target : ℕ) (s : State D) (p : Pair) (reason : Reason) → answer rules target s ≡ closed p reason
+      → isOpen s p × (foldTest rules (s .mesh) p ≡ Not reason)
+  answer-closed target s p reason e = subst (Told (s .mesh) (s .«open»)) e (answer-told target s)
 
   -- ---- sound after a step
 
@@ -104,7 +113,7 @@ module _ {D : Type 0} (rules : Rules D) where
   pub told-sound : (s : State D) → Sound s → (a : StepAnswer) → Told (s .mesh) (s .«open») a → Sound (after rules s a)
   unfolding after
   told-sound s sound (folded p) told = fold-sound rules s sound p (told .0)
-  told-sound s sound (closed p) told = close-sound rules s sound p
+  told-sound s sound (closed p reason) told = close-sound rules s sound p reason
   told-sound s sound ended told = sound
 
   pub step-sound : (target : ℕ) (s : State D) → Sound s → Sound (after rules s (answer rules target s))
@@ -128,9 +137,9 @@ module _ {D : Type 0} (rules : Rules D) where
   fold-falls faces s sound few p is-open =
       weighed (length (s .«open»)) (fold-fewer s sound p is-open) (omega (arith, fold-room s sound p is-open))
 
-  pub close-falls : (faces : ℕ) (s : State D) (p : Pair) → isOpen s p → budget faces (after rules s (closed p)) < budget faces s
+  pub close-falls : (faces : ℕ) (s : State D) (p : Pair) (reason : Reason) → isOpen s p → budget faces (after rules s (closed p reason)) < budget faces s
   unfolding after budget
-  close-falls faces s p is-open = omega (arith, length-without (samePair p) (s .«open») is-open)
+  close-falls faces s p reason is-open = omega (arith, length-without (samePair p) (s .«open») is-open)
 
   pub budget-falls :
       (target faces : ℕ) (s : State D) → Sound s → length (s .mesh .faces) ≤ faces → answer rules target s ≢ ended
@@ -139,20 +148,21 @@ module _ {D : Type 0} (rules : Rules D) where
     where
       falls : (a : StepAnswer) → Told (s .mesh) (s .«open») a → a ≢ ended → budget faces (after rules s a) < budget faces s
       falls (folded p) told not-ended = fold-falls faces s sound few p (told .0)
-      falls (closed p) told not-ended = close-falls faces s p (told .0)
+      falls (closed p reason) told not-ended = close-falls faces s p reason (told .0)
       falls ended told not-ended = absurd (not-ended refl)
 
 -- ---- the end
 
 -- a pair that is tried is no end, so no pair was to choose
-never-tried : (x : Pair) (b : Bool) → cond b (folded x) (closed x) ≡ ended → ⊥
-never-tried x true e = let z : _≡_ {A = ℕ} 0 1 = cc in omega arith
-never-tried x false e = let z : _≡_ {A = ℕ} 0 1 = cc in omega arith
+never-tried : (x : Pair) (t : Tested) → toldBy x t ≡ ended → ⊥
+unfolding toldBy
+never-tried x Allowed e = let z : _≡_ {A = ℕ} 0 1 = cc in omega arith
+never-tried x (Not reason) e = let z : _≡_ {A = ℕ} 0 1 = cc in omega arith
 
 none-chosen : {D : Type 0} (rules : Rules D) (m : Mesh D) (ps : List Pair) → chosen rules m ps ≡ ended → ps ≡ []
 unfolding chosen tried
 none-chosen rules m [] e = refl
-none-chosen rules m (x ∷ ps) e = absurd (never-tried (least rules m x ps) (allowed rules m (least rules m x ps)) e)
+none-chosen rules m (x ∷ ps) e = absurd (never-tried (least rules m x ps) (foldTest rules m (least rules m x ps)) e)
 
 -- above the target the walk ends only where no pair is open
 pub ended-open : {D : Type 0} (rules : Rules D) (target : ℕ) (s : State D) → answer rules target s ≡ ended → target < length (s .mesh .faces) → s .«open» ≡ []
@@ -163,5 +173,12 @@ ended-open rules target s e above = none-chosen rules (s .mesh) (s .«open») (r
 pub fold-answer : (a : StepAnswer) (p : Pair) → List·Memᴰ p (foldOf a) → a ≡ folded p
 unfolding foldOf
 fold-answer (folded q) p m = ap folded (sym (List·Memᴰ·eq-of-singleton m))
-fold-answer (closed q) p m = absurd (List·Memᴰ·not-nil m)
+fold-answer (closed q reason) p m = absurd (List·Memᴰ·not-nil m)
 fold-answer ended p m = absurd (List·Memᴰ·not-nil m)
+
+-- and the reason that an answer told is the one for which it closed its pair
+pub reason-answer : (a : StepAnswer) (reason : Reason) → List·Memᴰ reason (reasonOf a) → (p : Pair) × (a ≡ closed p reason)
+unfolding reasonOf
+reason-answer (folded p) reason m = absurd (List·Memᴰ·not-nil m)
+reason-answer (closed p other) reason m = (p, ap (closed p) (sym (List·Memᴰ·eq-of-singleton m)))
+reason-answer ended reason m = absurd (List·Memᴰ·not-nil m)

@@ -33,7 +33,7 @@ module _ {D : Type 0} (rules : Rules D) (held : D → Bool)
       → (a : StepAnswer) → Told rules (s .mesh) (s .«open») a → dataOf rules (after rules s a .mesh) x ≡ dataOf rules (s .mesh) x
   unfolding after
   told-still s all x is (folded p) told = other-same rules (s .mesh) p x (λ e. held-apart s all x is p (told .0) .0 (sym e))
-  told-still s all x is (closed p) told = refl
+  told-still s all x is (closed p reason) told = refl
   told-still s all x is ended told = refl
 
   -- and so does the walk

@@ -68,15 +68,17 @@ pub record Rules (D : Type 0) : Type 0 where
   pub rank : D → D → ℕ
   pub eligible : D → D → Bool
   pub merged : D → D → D
-  -- of a face's three points before a fold and after it: neither squashed nor turned over
-  pub fair : D → D → D → D → D → D → Bool
+  -- of a face's three points before a fold and after it: whether the fold squashes the face, and whether it turns it over
+  pub squashed : D → D → D → D → D → D → Bool
+  pub turned : D → D → D → D → D → D → Bool
   -- what a number that names no point stands for
   pub blank : D
 
--- The points by number, and the live faces in face order.
+-- The points by number, the live faces in face order, and beside them the number that each has in the input.
 pub record Mesh (D : Type 0) : Type 0 where
   pub points : List D
   pub faces : List Face
+  pub numbers : List ℕ
 
 module _ {D : Type 0} (rules : Rules D) where
   -- what a point carries

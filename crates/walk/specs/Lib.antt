@@ -4,5 +4,7 @@ pub mod Pairs
 pub mod FoldTest
 pub mod Fold
 pub mod Walk
+pub mod Closings
 pub mod Output
 pub mod Sound
+pub mod Contracts

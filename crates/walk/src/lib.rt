@@ -1,6 +1,7 @@
 // Faces and pairs of points, by value, and in specs/ the meaning of the mesh, the fold and the walk over them.
 ghost use mathlib.Core.Path.{_≡_};
 ghost use Rattle.walk.specs.Faces.{holds};
+ghost use Rattle.walk.specs.Contracts.{withReason, RoomToCount};
 
 // A triangle: the numbers of its three points, in order.
 pub struct Face {
@@ -15,6 +16,26 @@ pub struct Pair {
     pub remove: u32,
 }
 
+// Why a pair is not folded: its points aren't linked as they must be, or the fold squashes a face or turns one over. A face is told by its number in the input.
+pub enum Reason {
+    NotLinked,
+    Squashed(usize),
+    TurnedOver(usize),
+}
+
+// What the fold test says of a pair.
+pub enum Tested {
+    Allowed,
+    Not(Reason),
+}
+
+// How many pairs a walk has closed for each reason.
+pub struct Closings {
+    pub unlinked: u64,
+    pub squashed: u64,
+    pub turned: u64,
+}
+
 // Whether a face holds a point.
 pub fn face_holds(x: u32, f: Face) -> bool
     ensures { λ r. ⌜ r ≡ holds x f ⌝ }
@@ -26,4 +47,28 @@ pub fn face_holds(x: u32, f: Face) -> bool
         return true;
     }
     x == f.c
+}
+
+// One pair more is closed, for a reason.
+pub fn counted(closed: Closings, reason: Reason) -> Closings
+    requires { ⌜ RoomToCount closed ⌝ }
+    ensures { λ r. ⌜ r ≡ withReason closed reason ⌝ }
+{
+    match reason {
+        Reason::NotLinked => Closings {
+            unlinked: closed.unlinked + 1,
+            squashed: closed.squashed,
+            turned: closed.turned,
+        },
+        Reason::Squashed(_) => Closings {
+            unlinked: closed.unlinked,
+            squashed: closed.squashed + 1,
+            turned: closed.turned,
+        },
+        Reason::TurnedOver(_) => Closings {
+            unlinked: closed.unlinked,
+            squashed: closed.squashed,
+            turned: closed.turned + 1,
+        },
+    }
 }

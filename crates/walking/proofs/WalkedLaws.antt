@@ -15,7 +15,7 @@ use Rattle.plainwalk.specs.declared.Walked.{Walked}
 use Rattle.plainwalk.specs.Whole.{WalkDone}
 use Rattle.plainwalk.proofs.Theorems.{plain-walk-fewer}
 use Rattle.meaning.specs.Input.{Input, pointsIn, facesIn, boundIn}
-use Rattle.meaning.specs.Outcome.{startOf, targetOf, lastMesh, foldsWalked}
+use Rattle.meaning.specs.Outcome.{startOf, targetOf, lastMesh, foldsWalked, closedWalked}
 use Rattle.meaning.specs.Call.{listed}
 use Rattle.placement.specs.declared.Limit.{Limit}
 use Rattle.heapwalk.specs.Chain.{HeapWalked}
@@ -60,6 +60,11 @@ module _ {engine : Engine} (i : Input) {target fixed : ℕ} {u w w' : List ℕ} 
   unfolding foldsWalked startOf
   folds-made = walked .done .same-folds ∙ rw (laid .same-mesh, aim)
 
+  -- the pairs closed by reason are the input's
+  closed-counted : r .closed ≡ closedWalked i
+  unfolding closedWalked startOf
+  closed-counted = walked .done .same-closed ∙ rw (laid .same-mesh, aim)
+
   -- the folds written down are the input's
   folds-are : foldsIn (pointsIn i) (facesIn i) w' (r .folds) ≡ foldsWalked i
   unfolding foldsWalked startOf
@@ -71,7 +76,7 @@ module _ {engine : Engine} (i : Input) {target fixed : ℕ} {u w w' : List ℕ} 
 
   -- the walk's contract, once they are listed
   pub mesh-walked : (folds : List ℕ) {folds' : List ℕ} → folds' ≡ listed (foldsIn (pointsIn i) (facesIn i) w' (r .folds)) folds →
-      MeshWalked engine i u pu qu w' p' q' folds folds' (record { target = target; fixed = fixed; folds = r .folds })
+      MeshWalked engine i u pu qu w' p' q' folds folds' (record { target = target; fixed = fixed; folds = r .folds; closed = r .closed })
   mesh-walked folds here = record {
     walked = record { laid-u32s = w; laid-f32s = p; laid-f64s = q; laid = laid; live = r .live; by-engine = walked };
     tidy = walked .done .tidy;
@@ -82,5 +87,6 @@ module _ {engine : Engine} (i : Input) {target fixed : ℕ} {u w w' : List ℕ} 
     fixed-few = rw (laid .counted) (fixed-few (pointsIn i) (facesOf (facesIn i) (i .faces)) (i .options .preserve) (i .margin));
     folds-made = folds-made;
     folds-few = folds-few;
+    closed-counted = closed-counted;
     folds-listed = here ∙ ap (λ (made : List Pair). listed made folds) folds-are;
   }

@@ -16,7 +16,7 @@ use Rattle.plainwalk.specs.Steps.{Within}
 use Rattle.meaning.specs.declared.Options.{Options}
 use Rattle.meaning.specs.Input.{Input, pointsIn, facesIn, boundIn}
 use Rattle.meaning.specs.Start.{fixedCount, startMesh}
-use Rattle.meaning.specs.Outcome.{targetOf, lastMesh, foldsWalked, fixedIn}
+use Rattle.meaning.specs.Outcome.{targetOf, lastMesh, foldsWalked, closedWalked, fixedIn}
 use Rattle.meaning.specs.Call.{listed}
 use Rattle.plainwalk.specs.declared.Walked.{Walked}
 use Rattle.plainwalk.specs.Whole.{WalkDone}
@@ -86,7 +86,7 @@ pub record LaidAndWalked (engine : Engine) (i : Input) (u : List ℕ) (p q : Lis
   pub laid : LaidOut (pointsIn i) (facesIn i) (i .points) (i .faces) (i .options .preserve) (i .margin) u p q laid-u32s laid-f32s laid-f64s (came .fixed)
   pub live : ℕ
   pub by-engine : WalkedBy engine (pointsIn i) (facesIn i) (came .target) (i .options .limit) (boundIn i) laid-u32s laid-f32s laid-f64s u' p' q'
-      (record { folds = came .folds; live = live })
+      (record { folds = came .folds; closed = came .closed; live = live })
 
 -- an input's last mesh in the work memory, what its walk came to, and its folds listed
 pub record MeshWalked (engine : Engine) (i : Input) (u : List ℕ) (p q : List Float) (u' : List ℕ) (p' q' : List Float) (folds folds' : List ℕ) (came : Came) : Type 0 where
@@ -99,4 +99,5 @@ pub record MeshWalked (engine : Engine) (i : Input) (u : List ℕ) (p q : List F
   pub fixed-few : came .fixed ≤ pointsIn i
   pub folds-made : came .folds ≡ length (foldsWalked i)
   pub folds-few : came .folds ≤ facesIn i
+  pub closed-counted : came .closed ≡ closedWalked i
   pub folds-listed : folds' ≡ listed (foldsWalked i) folds

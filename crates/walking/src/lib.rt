@@ -13,6 +13,7 @@ use placement::Bounds;
 use plainwalk::Walked;
 use units::unit_bound;
 use units::unit_of;
+use walk::Closings;
 
 // How the mesh is walked: by every cost worked out anew, or by a queue.
 pub enum Engine {
@@ -20,11 +21,12 @@ pub enum Engine {
     Heap,
 }
 
-// What the walk of a mesh came to: the faces it was to reach, how many points are fixed, and the folds made.
+// What the walk of a mesh came to: the faces it was to reach, how many points are fixed, the folds made, and the pairs closed by reason.
 pub struct Came {
     pub target: usize,
     pub fixed: usize,
     pub folds: usize,
+    pub closed: Closings,
 }
 
 // Lays the mesh out in the work memory as it is at the start, and counts the points that are fixed.
@@ -122,9 +124,11 @@ pub fn walked(
     let fixed = laid_out(points, faces, margin, options.preserve, w, p, q, v, f);
     let walked = walk_by(engine, w, p, q, v, f, target, bounds);
     list_folds(w, v, f, walked.folds, folds);
+    let closed = walked.closed;
     Came {
         target: target,
         fixed: fixed,
         folds: walked.folds,
+        closed,
     }
 }

@@ -10,11 +10,18 @@ abbrev entry : tie.After-gather → tie.Start
 entry c = c .before .before .before .before .before
 
 -- where the lists stand, as the test is answered
-abbrev at-lists : tie.After-is-allowed → tie.After-gather
+abbrev at-lists : tie.After-tested → tie.After-gather
 at-lists c = c .before .before .before .before .before
 
-is-allowed-requires : tie.Need-is-allowed-requires
-is-allowed-requires c κs =
+-- and as the answer is told
+abbrev at-allowed : tie.After-enum-told → tie.After-tested
+at-allowed c = c .before .before .before .before
+
+abbrev at-refused : tie.After-reason → tie.After-tested
+at-refused c = c .before .before .before .before
+
+tested-requires : tie.Need-tested-requires
+tested-requires c κs =
     let lists = c .before .before .before .before in
     let s = entry lists in
     let around = listed-around (s .args .fold) (s .pre .0) (s .pre .1 .0) (lists .gather .ensures) in
@@ -22,11 +29,11 @@ is-allowed-requires c κs =
 
 fold-mesh-requires : tie.Need-fold-mesh-requires
 fold-mesh-requires c κs =
-    let at = c .before .before .before .before .before .before in
+    let at = at-allowed (c .before .before .before) in
     let lists = at-lists at in
     let s = entry lists in
     let listed = lists .gather .ensures .ringed in
-    rw (at .is-allowed .ensures .1) (
+    rw (at .tested .ensures .1) (
       listed-tidy (s .args .fold) (s .pre .0) (s .pre .1 .0) (lists .gather .ensures),
       (
         s .pre .1 .0,
@@ -40,26 +47,30 @@ fold-mesh-requires c κs =
 returns : tie.Need-returns
 returns c limit bound there =
     let done = c .before .before .before .before .before .before in
-    let at = done .before .before .before .before .before .before .before in
+    let told = done .before .before .before .before in
+    let at = at-allowed told in
     let lists = at-lists at in
     let s = entry lists in
-    fold-made (s .args .fold) (s .pre .0) (s .pre .1 .0) (lists .gather .ensures) (s .args .p .now) (s .args .q .now) limit bound there (at .is-allowed .ensures .0) (done .before .before .before .before .if1 .taken)
-    (rw (at .is-allowed .ensures .1) at (done .fold-mesh .ensures))
+    fold-made (s .args .fold) (s .pre .0) (s .pre .1 .0) (lists .gather .ensures) (s .args .p .now) (s .args .q .now) limit bound there (at .tested .ensures .0) (told .enum-told .given .1)
+    (rw (at .tested .ensures .1) at (done .fold-mesh .ensures))
 
 returns-2 : tie.Need-returns-2
 returns-2 c limit bound there =
-    let at = c .before .before .before in
+    let told = c .before in
+    let at = at-refused told in
     let lists = at-lists at in
     let s = entry lists in
-    fold-refused (s .args .fold) (s .pre .0) (s .pre .1 .0) (lists .gather .ensures) (s .args .p .now) (s .args .q .now) limit bound there (at .is-allowed .ensures .0) (c .if1 .left) (at .is-allowed .ensures .1)
+    fold-refused (s .args .fold) (s .pre .0) (s .pre .1 .0) (lists .gather .ensures) (s .args .p .now) (s .args .q .now) limit bound there (at .tested .ensures .0) (told .reason .given .1) (at .tested .ensures .1)
 
 pub try-fold-spec : {M : Type 1} → statement M
 try-fold-spec =
     tie.close
     (tie.spec
     (λ c κs. search needs)
-    is-allowed-requires
+    tested-requires
+    (λ c. search needs)
     fold-mesh-requires
+    (λ c. search needs)
     (λ c. search needs)
     (λ c. search needs)
     (λ c. search needs)

@@ -1,6 +1,7 @@
--- `foldtest::is_harmed` meets its contract: a face that holds the other point is not harmed, and any other is if it isn't fair.
+-- `foldtest::is_harmed` meets its contract: a face that holds the other point is not harmed, and any other is if the test doesn't allow it.
 -- Assumes nothing.
-use Rattle.foldtest.proofs.HarmLaws.{face-placed, spared, harm-decided}
+use borrow.Author.Needs.{needs}
+use Rattle.foldtest.proofs.HarmLaws.{face-placed, spared, unharmed, is-harmed}
 use Rattle.foldtest.proofs.is_harmed.Statement.{statement}
 use Rattle.foldtest.proofs.is_harmed.Tie as tie
 
@@ -13,8 +14,8 @@ returns c =
     let a = asked .before .before .before .before .args in
     spared (a .p .now) (a .fold .keep) (a .fold .remove) (a .fold .place) (a .other) (asked .before .face-in .ensures) (asked .face-holds .ensures) (c .if1 .taken)
 
-is-fair-requires : tie.Need-is-fair-requires
-is-fair-requires c κs =
+tested-face-requires : tie.Need-tested-face-requires
+tested-face-requires c κs =
     let read = c .before .before in
     let start = read .before .before .before in
     let pre = start .pre in
@@ -22,10 +23,21 @@ is-fair-requires c κs =
 
 returns-2 : tie.Need-returns-2
 returns-2 c =
-    let asked = c .before .before in
+    let told = c .before .before in
+    let asked = told .before .before in
     let a = asked .before .before .before .before .args in
-    harm-decided (a .p .now) (a .fold .keep) (a .fold .remove) (a .fold .place) (a .other) (asked .before .face-in .ensures) (asked .face-holds .ensures)
-    (c .before .if1 .left) (c .is-fair .ensures)
+    unharmed (a .p .now) (a .fold .keep) (a .fold .remove) (a .fold .place) (a .other) (asked .before .face-in .ensures) (asked .face-holds .ensures)
+    (told .before .if1 .left) (a .k) (told .tested-face .ensures) (c .enum-told .given .1)
+
+returns-3 : tie.Need-returns-3
+returns-3 c =
+    let told = c .before .before in
+    let asked = told .before .before in
+    let a = asked .before .before .before .before .args in
+    is-harmed (a .p .now) (a .fold .keep) (a .fold .remove) (a .fold .place) (a .other) (asked .before .face-in .ensures) (asked .face-holds .ensures)
+    (told .before .if1 .left) (a .k) (told .tested-face .ensures) (c .enum-told2 .given .1)
 
 pub is-harmed-spec : {M : Type 1} → statement M
-is-harmed-spec = tie.close (tie.spec face-in-requires (λ c κs. tt) returns is-fair-requires returns-2)
+is-harmed-spec =
+    tie.close
+    (tie.spec face-in-requires (λ c κs. tt) returns tested-face-requires (λ c. search needs) (λ c. search needs) returns-2 returns-3)

@@ -1,24 +1,20 @@
--- When a fold is allowed (document 01, "A fold is allowed if").
+-- The fold test in memory (document 01, "A fold is allowed if"; document 02, wish 4).
 use Prim.Native.Nat.{ℕ}
 use mathlib.Core.List.{List}
-use mathlib.Core.Bool.{Bool, _&&_}
-use lib.Dec.{leb, eqb}
+use mathlib.Core.Bool.{cond}
 use lib.Ieee.{Float}
 use Rattle.geometry.specs.declared.Point.{Point}
-use Rattle.walk.specs.declared.Face.{Face}
-use Rattle.lists.specs.Lists.{every}
-use Rattle.walk.specs.Faces.{shared, common}
-use Rattle.memory.specs.Memory.{liveFaces}
-use Rattle.foldtest.specs.Contracts.Fair.{fairFaceAt}
+use Rattle.walk.specs.declared.Reason.the-variants.{NotLinked}
+use Rattle.walk.specs.declared.Tested.{Tested}
+use Rattle.walk.specs.declared.Tested.the-variants.{Not}
+use Rattle.walk.specs.FoldTest.{linked, firstHarm}
+use Rattle.memory.specs.Memory.{liveFaces, liveNumbers}
+use Rattle.foldtest.specs.Contracts.Fair.{harmAt}
 
--- the faces that hold both number at least 1, and the common neighbours number the same
-abbrev pub linked : ℕ → List Face → ℕ → ℕ → Bool
-linked v faces keep remove = leb 1 (shared faces keep remove) && eqb (common v faces keep remove) (shared faces keep remove)
-
--- no face that holds just one of the two is squashed or turned over
-abbrev pub fairAround : List Float → List Face → ℕ → ℕ → Point → Bool
-fairAround p faces keep remove place = every (fairFaceAt p keep remove place) faces
-
--- both, of the live faces in memory
-unfoldable pub allowedAt : ℕ → ℕ → List ℕ → List Float → ℕ → ℕ → Point → Bool
-allowedAt v f w p keep remove place = linked v (liveFaces f w) keep remove && fairAround p (liveFaces f w) keep remove place
+-- of the live faces in memory, and a place for keep that was worked out before
+unfoldable pub testedAt : ℕ → ℕ → List ℕ → List Float → ℕ → ℕ → Point → Tested
+unfolding firstHarm harmAt
+testedAt v f w p keep remove place =
+    cond (linked v (liveFaces f w) keep remove)
+    (firstHarm (harmAt p keep remove place) (liveFaces f w) (liveNumbers f w))
+    (Not NotLinked)

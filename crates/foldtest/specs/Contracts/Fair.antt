@@ -7,9 +7,11 @@ use lib.ListN.{length}
 use lib.Ieee.{Float, binary32, mul, lt}
 use Rattle.geometry.specs.declared.Point.{Point}
 use Rattle.walk.specs.declared.Face.{Face}
-use Rattle.walk.specs.Faces.{holds, both}
+use Rattle.walk.specs.declared.Tested.{Tested}
+use Rattle.walk.specs.Faces.{holds}
+use Rattle.walk.specs.FoldTest.{asked, harm}
 use Rattle.meaning.specs.Input.{pointAt}
-use Rattle.meaning.specs.Arithmetic.{tiny, hundredth, fairPoints}
+use Rattle.meaning.specs.Arithmetic.{tiny, hundredth, squashedPoints, turnedPoints}
 
 -- the three points of a face stand in the memory
 pub record Placed (p : List Float) (face : Face) : Type 0 where
@@ -29,18 +31,26 @@ turned b a dot = not (lt (mul binary32 (mul binary32 hundredth b) a) dot)
 abbrev pub movedAt : List Float → ℕ → ℕ → Point → ℕ → Point
 movedAt p keep remove place x = cond (eqb x keep || eqb x remove) place (pointAt p x)
 
--- the fold neither squashes a face nor turns it over
-abbrev pub fairAt : List Float → ℕ → ℕ → Point → Face → Bool
-fairAt p keep remove place face =
-    fairPoints
+-- a rule, asked of a face's three points before the fold and after it
+abbrev pub ruleAt : (Point → Point → Point → Point → Point → Point → Bool) → List Float → ℕ → ℕ → Point → Face → Bool
+ruleAt rule p keep remove place face =
+    rule
     (pointAt p (face .a)) (pointAt p (face .b)) (pointAt p (face .c))
     (movedAt p keep remove place (face .a)) (movedAt p keep remove place (face .b)) (movedAt p keep remove place (face .c))
 
+-- whether the fold squashes a face, and whether it turns it over
+abbrev pub squashedAt : List Float → ℕ → ℕ → Point → Face → Bool
+squashedAt = ruleAt squashedPoints
+
+abbrev pub turnedAt : List Float → ℕ → ℕ → Point → Face → Bool
+turnedAt = ruleAt turnedPoints
+
 -- a face at one of the two points that doesn't hold the other one is harmed
 abbrev pub harmed : List Float → ℕ → ℕ → Point → ℕ → Face → Bool
-harmed p keep remove place other face = not (holds other face) && not (fairAt p keep remove place face)
+harmed p keep remove place other face = not (holds other face) && (squashedAt p keep remove place face || turnedAt p keep remove place face)
 
--- a face that holds just one of the two is fair; no other face is asked
-unfoldable pub fairFaceAt : List Float → ℕ → ℕ → Point → Face → Bool
-fairFaceAt p keep remove place face =
-    not (holds keep face || holds remove face) || both keep remove face || fairAt p keep remove place face
+-- what is told of the face of a number: of one that holds just one of the two whether it is squashed or turned over; no other face is asked
+unfoldable pub harmAt : List Float → ℕ → ℕ → Point → ℕ → Face → Tested
+unfolding harm
+harmAt p keep remove place number face =
+    harm number (asked keep remove face) (squashedAt p keep remove place face) (turnedAt p keep remove place face)

@@ -95,9 +95,10 @@ returns c =
 
 returns-2 : tie.Need-returns-2
 returns-2 c =
-    let at = c .before .before .before .before .before .before .before .before in
+    let told = c .before in
+    let at = told .before .before .before .before .before .before .before .before in
     let s = entry at in
-    refused-done (s .pre) (tried-as (c .enum-told .given .1) (at .try-fold .ensures (s .args .bounds .limit) (s .args .bounds .size) (s .pre .same-place)))
+    refused-done (s .pre) (tried-as (told .reason .given .1) (at .try-fold .ensures (s .args .bounds .limit) (s .args .bounds .size) (s .pre .same-place)))
 
 pub try-pair-spec : {M : Type 1} → statement M
 try-pair-spec =

@@ -1,5 +1,5 @@
--- `heapwalk::walk_on` meets its contract. The loop's invariant: a chain of steps leads from the start to the memory as it is, and the folds
--- told on it are written down. The measure is the plain walk's budget. Assumes nothing.
+-- `heapwalk::walk_on` meets its contract. The loop's invariant: a chain of steps leads from the start to the memory as it is, the folds
+-- told on it are written down, and the reasons told on it are counted. The measure is the plain walk's budget. Assumes nothing.
 use native.Mathlib.Omega.{arith}
 use borrow.Author.Needs.{needs}
 use Rattle.walk.specs.Walk.{budget}
@@ -7,16 +7,16 @@ use Rattle.queue.specs.State.{heapState}
 use Rattle.plainwalk.specs.Moments.{moment}
 use Rattle.plainwalk.proofs.LentLaws.{folds-few, room-folded, less-folded, less-closed}
 use Rattle.heapwalk.proofs.HoldLaws.{heap-step}
-use Rattle.heapwalk.proofs.ChainLaws.{Chaining, chaining-start, chaining-folded, chaining-closed, chaining-end}
+use Rattle.heapwalk.proofs.ChainLaws.{Chaining, chaining-start, chaining-folded, chaining-room, chaining-closed, chaining-end}
 use Rattle.heapwalk.proofs.walk_on.Statement.{statement}
 use Rattle.heapwalk.proofs.walk_on.Tie as tie
 
 abbrev Inv-loop : tie.InvT-loop
-Inv-loop w₀ p₀ q₀ v f n₀ live₀ target bounds open₀ faces₀ folds₀ w p q n live folds =
-    Chaining v f target (bounds .limit) (bounds .size) (moment w₀ p₀ q₀ n₀ live₀) (moment w p q n live) folds
+Inv-loop w₀ p₀ q₀ v f n₀ live₀ target bounds open₀ faces₀ folds₀ closed₀ w p q n live folds closed =
+    Chaining v f target (bounds .limit) (bounds .size) (moment w₀ p₀ q₀ n₀ live₀) (moment w p q n live) folds closed
 
 abbrev μ-loop : tie.MeasureT-loop
-μ-loop w₀ p₀ q₀ v f n₀ live₀ target bounds open₀ faces₀ folds₀ w p q n live folds = budget f (heapState v f w p q n)
+μ-loop w₀ p₀ q₀ v f n₀ live₀ target bounds open₀ faces₀ folds₀ closed₀ w p q n live folds closed = budget f (heapState v f w p q n)
 
 loop-holds : tie.Need-loop-holds Inv-loop μ-loop
 loop-holds c =
@@ -50,20 +50,27 @@ loop-again c =
     rw (noted .note-fold .ensures)
     (chaining-folded (stepped .before .before .before .before .loop .inv) (stepped .heap-step .ensures) (noted .before .before .before .step .given .1))
 
+counted-requires : tie.Need-counted-requires Inv-loop μ-loop
+counted-requires c κs =
+    let stepped = c .before .before .before .before .before .before .before .before .before in
+    chaining-room (stepped .before .before .before .before .loop .inv) (stepped .heap-step .ensures) (c .before .step2 .given .1)
+
 loop-less-2 : tie.Need-loop-less-2 Inv-loop μ-loop
 loop-less-2 c =
-    let stepped = c .before .before .before .before .before .before .before .before in
-    less-closed (stepped .before .before .before .before .loop .inv .walking) (heap-step (stepped .heap-step .ensures)) (c .enum-told .given .1)
+    let told = c .before .before in
+    let stepped = told .before .before .before .before .before .before .before .before in
+    less-closed (stepped .before .before .before .before .loop .inv .walking) (heap-step (stepped .heap-step .ensures)) (told .step2 .given .1)
 
 loop-again-2 : tie.Need-loop-again-2 Inv-loop μ-loop
 loop-again-2 c =
-    let stepped = c .before .before .before .before .before .before .before .before in
-    chaining-closed (stepped .before .before .before .before .loop .inv) (stepped .heap-step .ensures) (c .enum-told .given .1)
+    let told = c .before .before in
+    let stepped = told .before .before .before .before .before .before .before .before in
+    chaining-closed (stepped .before .before .before .before .loop .inv) (stepped .heap-step .ensures) (told .step2 .given .1) (c .counted .ensures)
 
 returns : tie.Need-returns Inv-loop μ-loop
 returns c =
     let stepped = c .before .before .before .before .before .before .before .before in
-    chaining-end (stepped .before .before .before .before .loop .inv) (stepped .heap-step .ensures) (c .enum-told2 .given .1)
+    chaining-end (stepped .before .before .before .before .loop .inv) (stepped .heap-step .ensures) (c .enum-told .given .1)
 
 pub walk-on-spec : {M : Type 1} → statement M
 walk-on-spec =
@@ -79,6 +86,7 @@ walk-on-spec =
     loop-less
     loop-again
     (λ c. search needs)
+    counted-requires
     loop-less-2
     loop-again-2
     (λ c. search needs)

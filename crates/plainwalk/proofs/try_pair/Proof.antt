@@ -18,7 +18,7 @@ entry c = c .before .before .before .before .before .before .before .before
 abbrev at-made : tie.After-gone → tie.After-try-fold
 at-made c = c .before .before .before .before .before .before .before .before
 
-abbrev at-refused : tie.After-enum-told → tie.After-try-fold
+abbrev at-refused : tie.After-reason → tie.After-try-fold
 at-refused c = c .before .before .before .before .before .before .before .before
 
 -- where the fold was made, from the call after it
@@ -34,13 +34,13 @@ made c =
     let s = entry (at-made c) in
     tried-as (c .gone .given .1) (at-made c .try-fold .ensures (s .args .bounds .limit) (s .args .bounds .size) (s .pre .1 .place))
 
-refused : (c : tie.After-enum-told) → let a = entry (at-refused c) .args in
+refused : (c : tie.After-reason) → let a = entry (at-refused c) .args in
     let out = at-refused c .try-fold .last in
     FoldTried (a .v) (a .f) (a .bounds .limit) (a .bounds .size) (a .w .now) (a .p .now) (a .q .now) (a .least .fold .keep) (a .least .fold .remove)
-    (out .0) (out .1 .0) (out .1 .1 .0) Refused
+    (out .0) (out .1 .0) (out .1 .1 .0) (Refused (c .reason .given .0 .0))
 refused c =
     let s = entry (at-refused c) in
-    tried-as (c .enum-told .given .1) (at-refused c .try-fold .ensures (s .args .bounds .limit) (s .args .bounds .size) (s .pre .1 .place))
+    tried-as (c .reason .given .1) (at-refused c .try-fold .ensures (s .args .bounds .limit) (s .args .bounds .size) (s .pre .1 .place))
 
 try-fold-requires : tie.Need-try-fold-requires
 try-fold-requires c κs =
@@ -78,7 +78,7 @@ returns c =
 
 close-pair-requires : tie.Need-close-pair-requires
 close-pair-requires c κs =
-    let told = c .before in
+    let told = c .before .before in
     let s = entry (at-refused told) in
     let few = refused-few (s .pre .0) (s .pre .1) (refused told) in
     (few .0, (few .1, few .2))
@@ -86,7 +86,7 @@ close-pair-requires c κs =
 returns-2 : tie.Need-returns-2
 returns-2 c =
     let closed = c .before .before in
-    let told = closed .before .before in
+    let told = closed .before .before .before in
     let s = entry (at-refused told) in
     refused-done (s .pre .0) (s .pre .1) (refused told) (closed .close-pair .ensures)
 

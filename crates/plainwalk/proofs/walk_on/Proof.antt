@@ -1,68 +1,76 @@
--- `plainwalk::walk_on` meets its contract. The loop's invariant: the memory holds the state that the plain walk comes to in some number of steps, and the
--- folds made on the way are written down. The measure is the plain walk's budget. Assumes nothing.
+-- `plainwalk::walk_on` meets its contract. The loop's invariant: the memory holds the state that the plain walk comes to in some number of steps, the
+-- folds made on the way are written down, and the pairs closed on it are counted by reason. The measure is the plain walk's budget. Assumes nothing.
 use native.Mathlib.Omega.{arith}
 use borrow.Author.Needs.{needs}
 use Rattle.walk.specs.Walk.{budget}
 use Rattle.openpairs.specs.State.{stateOf}
 use Rattle.plainwalk.specs.Moments.{moment}
-use Rattle.plainwalk.proofs.LentLaws.{Walking, walking-start, folds-few, room-folded, turn-folded, turn-closed, less-folded, less-closed, walking-end}
+use Rattle.plainwalk.proofs.LentLaws.{folds-few, room-folded, less-folded, less-closed}
+use Rattle.plainwalk.proofs.CountLaws.{Counting, counting-start, count-folded, count-room, count-closed, counting-end}
 use Rattle.plainwalk.proofs.WalkLaws.{plain, plain-step}
 use Rattle.plainwalk.proofs.walk_on.Statement.{statement}
 use Rattle.plainwalk.proofs.walk_on.Tie as tie
 
 abbrev Inv-loop : tie.InvT-loop
-Inv-loop w₀ p₀ q₀ v f n₀ live₀ target bounds open₀ faces₀ folds₀ w p q n live folds =
-    Walking (plain v f) target (bounds .limit) (bounds .size) (moment w₀ p₀ q₀ n₀ live₀) (moment w p q n live) folds
+Inv-loop w₀ p₀ q₀ v f n₀ live₀ target bounds open₀ faces₀ folds₀ closed₀ w p q n live folds closed =
+    Counting (plain v f) target (bounds .limit) (bounds .size) (moment w₀ p₀ q₀ n₀ live₀) (moment w p q n live) folds closed
 
 abbrev μ-loop : tie.MeasureT-loop
-μ-loop w₀ p₀ q₀ v f n₀ live₀ target bounds open₀ faces₀ folds₀ w p q n live folds = budget f (stateOf v f w p q n)
+μ-loop w₀ p₀ q₀ v f n₀ live₀ target bounds open₀ faces₀ folds₀ closed₀ w p q n live folds closed = budget f (stateOf v f w p q n)
 
 loop-holds : tie.Need-loop-holds Inv-loop μ-loop
 loop-holds c =
     let start = c .before .before .before in
-    walking-start (plain (start .args .v) (start .args .f)) (start .args .target) (start .args .bounds .limit) (start .args .bounds .size) _ (start .pre)
+    counting-start (plain (start .args .v) (start .args .f)) (start .args .target) (start .args .bounds .limit) (start .args .bounds .size) _ (start .pre)
 
 plain-step-requires : tie.Need-plain-step-requires Inv-loop μ-loop
-plain-step-requires c κs = c .before .before .before .loop .inv .going .holds
+plain-step-requires c κs = c .before .before .before .loop .inv .walking .going .holds
 
 note-fold-requires : tie.Need-note-fold-requires Inv-loop μ-loop
 note-fold-requires c κs =
     let stepped = c .before .before .before .before .before .before .before .before .before .before in
-    room-folded (stepped .before .before .before .before .loop .inv) (plain-step (stepped .plain-step .ensures)) (c .before .before .step .given .1)
+    room-folded (stepped .before .before .before .before .loop .inv .walking) (plain-step (stepped .plain-step .ensures)) (c .before .before .step .given .1)
 
 add-folds : tie.Need-add-folds Inv-loop μ-loop
 add-folds c =
     let turn = c .before .before .before .before .before .before .before .before .before .before .before .before .before .before .before .before .before in
-    omega (arith, folds-few (turn .loop .inv), turn .before .before .before .before .pre .tidy .room)
+    omega (arith, folds-few (turn .loop .inv .walking), turn .before .before .before .before .pre .tidy .room)
 
 loop-less : tie.Need-loop-less Inv-loop μ-loop
 loop-less c =
     let noted = c .before .before in
     let stepped = noted .before .before .before .before .before .before .before .before .before .before .before in
     rw (noted .note-fold .ensures)
-    (less-folded (stepped .before .before .before .before .loop .inv) (plain-step (stepped .plain-step .ensures)) (noted .before .before .before .step .given .1))
+    (less-folded (stepped .before .before .before .before .loop .inv .walking) (plain-step (stepped .plain-step .ensures)) (noted .before .before .before .step .given .1))
 
 loop-again : tie.Need-loop-again Inv-loop μ-loop
 loop-again c =
     let noted = c .before .before in
     let stepped = noted .before .before .before .before .before .before .before .before .before .before .before in
     rw (noted .note-fold .ensures)
-    (turn-folded (stepped .before .before .before .before .loop .inv) (plain-step (stepped .plain-step .ensures)) (noted .before .before .before .step .given .1))
+    (count-folded (stepped .before .before .before .before .loop .inv) (plain-step (stepped .plain-step .ensures)) (noted .before .before .before .step .given .1))
+
+counted-requires : tie.Need-counted-requires Inv-loop μ-loop
+counted-requires c κs =
+    let stepped = c .before .before .before .before .before .before .before .before .before in
+    count-room (stepped .before .before .before .before .loop .inv) (plain-step (stepped .plain-step .ensures)) (c .before .step2 .given .1)
 
 loop-less-2 : tie.Need-loop-less-2 Inv-loop μ-loop
 loop-less-2 c =
-    let stepped = c .before .before .before .before .before .before .before .before in
-    less-closed (stepped .before .before .before .before .loop .inv) (plain-step (stepped .plain-step .ensures)) (c .enum-told .given .1)
+    let told = c .before .before in
+    let stepped = told .before .before .before .before .before .before .before .before in
+    less-closed (stepped .before .before .before .before .loop .inv .walking) (plain-step (stepped .plain-step .ensures)) (told .step2 .given .1)
 
 loop-again-2 : tie.Need-loop-again-2 Inv-loop μ-loop
 loop-again-2 c =
-    let stepped = c .before .before .before .before .before .before .before .before in
-    turn-closed (stepped .before .before .before .before .loop .inv) (plain-step (stepped .plain-step .ensures)) (c .enum-told .given .1)
+    let told = c .before .before in
+    let stepped = told .before .before .before .before .before .before .before .before in
+    count-closed (stepped .before .before .before .before .loop .inv) (plain-step (stepped .plain-step .ensures)) (told .step2 .given .1) (c .counted .ensures)
 
 returns : tie.Need-returns Inv-loop μ-loop
 returns c =
     let stepped = c .before .before .before .before .before .before .before .before in
-    walking-end (stepped .before .before .before .before .loop .inv) (plain-step (stepped .plain-step .ensures)) (c .enum-told2 .given .1)
+    counting-end (stepped .before .before .before .before .loop .inv) (plain-step (stepped .plain-step .ensures)) (c .enum-told .given .1)
 
 pub walk-on-spec : {M : Type 1} → statement M
 walk-on-spec =
@@ -78,6 +86,7 @@ walk-on-spec =
     loop-less
     loop-again
     (λ c. search needs)
+    counted-requires
     loop-less-2
     loop-again-2
     (λ c. search needs)

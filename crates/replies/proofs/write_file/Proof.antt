@@ -9,7 +9,7 @@ returns c =
     let told = c .before in
     let called = told .before .before .before .before in
     let named = called .before .before in
-    file-replied (λ i. named .before .before .shared-slice-known .given i) (rw (named .unit-number .ensures) at (called .write-scan .ensures)) (told .n .given .1)
+    file-replied (named .before .before .before .before .args .closed) (λ i. named .before .before .shared-slice-known .given i) (rw (named .unit-number .ensures) at (called .write-scan .ensures)) (told .n .given .1)
 
 returns-2 : tie.Need-returns-2
 returns-2 c =

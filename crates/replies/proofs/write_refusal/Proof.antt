@@ -5,7 +5,7 @@ use Rattle.replies.proofs.write_refusal.Statement.{statement}
 use Rattle.replies.proofs.write_refusal.Tie as tie
 
 returns : tie.Need-returns
-returns c = refusal-replied _ _ _ (c .before .before .before .before .before .before .pre) (c .before .before .before .list-refusal .ensures) (c .size-in .ensures)
+returns c = refusal-replied _ _ _ _ (c .before .before .before .before .before .before .pre) (c .before .before .before .list-refusal .ensures) (c .size-in .ensures)
 
 pub write-refusal-spec : {M : Type 1} → statement M
 write-refusal-spec =

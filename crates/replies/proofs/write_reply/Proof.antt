@@ -10,7 +10,11 @@ write-good-requires c κs = (search needs, sym (c .before .before .before .befor
 
 returns : tie.Need-returns
 unfolding replyOf replyBy
-returns c = rw (sym (c .before .before .before .before .before .before .before .read-scan .ensures) ∙ c .before .before .before .before .before .number .given .1) (c .before .before .write-refusal .ensures)
+returns c =
+    let done = c .before .before in
+    let none = done .before in
+    let told = none .before .before .before in
+    rw (sym (told .before .before .read-scan .ensures) ∙ told .number .given .1, ← none .none-closed .ensures) (done .write-refusal .ensures)
 
 returns-2 : tie.Need-returns-2
 unfolding replyOf
@@ -22,6 +26,7 @@ write-reply-spec =
     (tie.spec
     (λ c κs. search needs)
     (λ c. search needs)
+    (λ c κs. search needs)
     (λ c κs. search needs)
     (λ c. search needs)
     write-good-requires

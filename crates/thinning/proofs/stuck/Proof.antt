@@ -7,10 +7,10 @@ use Rattle.thinning.proofs.stuck.Statement.{statement}
 use Rattle.thinning.proofs.stuck.Tie as tie
 
 returns : tie.Need-returns
-returns c = c .refusal .ensures ∙ rw (lt-ltb 0 _ (c .before .if1 .taken))
+returns c = c .without-mesh .ensures ∙ rw (lt-ltb 0 _ (c .before .if1 .taken))
 
 returns-2 : tie.Need-returns-2
-returns-2 c = c .refusal2 .ensures ∙ rw (le-ltb 0 _ (c .before .if1 .left))
+returns-2 c = c .without-mesh2 .ensures ∙ rw (le-ltb 0 _ (c .before .if1 .left))
 
 pub stuck-spec : {M : Type 1} → statement M
 stuck-spec =

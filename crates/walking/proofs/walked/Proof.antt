@@ -50,20 +50,20 @@ list-folds-requires c κs =
     (walked .done .tidy .room, folds-few (input (begun before)) (aim before) (before .laid-out .ensures) walked)
 
 same-length : tie.Need-same-length
-same-length c = let again = c .before .before .before .before .before .before .before .before .before .before in again .w2 .given ∙ again .before .before .before .before .before .before .before .before .before .before .w .given
+same-length c = let again = c .before .before .before .before .before .before .before .before .before .before .before in again .w2 .given ∙ again .before .before .before .before .before .before .before .before .before .before .w .given
 
 same-length-2 : tie.Need-same-length-2
-same-length-2 c = let again = c .before .before .before .before .before .before .before .before in again .p2 .given ∙ again .before .before .before .before .before .before .before .before .before .before .p .given
+same-length-2 c = let again = c .before .before .before .before .before .before .before .before .before in again .p2 .given ∙ again .before .before .before .before .before .before .before .before .before .before .p .given
 
 same-length-3 : tie.Need-same-length-3
-same-length-3 c = let again = c .before .before .before .before .before .before in again .q2 .given ∙ again .before .before .before .before .before .before .before .before .before .before .q .given
+same-length-3 c = let again = c .before .before .before .before .before .before .before in again .q2 .given ∙ again .before .before .before .before .before .before .before .before .before .before .q .given
 
 same-length-4 : tie.Need-same-length-4
-same-length-4 c = c .before .folds .given
+same-length-4 c = c .before .before .folds .given
 
 returns : tie.Need-returns
 returns c =
-    let listed = c .before .before in
+    let listed = c .before .before .before in
     let stage = listed .before .before .before .before .before .before .before .before .before in
     let before = laid stage in
     let start = begun before in
