@@ -12,7 +12,7 @@ use Rattle.placement.specs.declared.Limit.{Limit}
 use Rattle.walk.specs.declared.Pair.{Pair}
 use Rattle.walk.specs.declared.Closings.{Closings}
 use Rattle.walk.specs.declared.Reason.{Reason}
-use Rattle.walk.specs.Closings.{closingsOf}
+use Rattle.walk.specs.Closings.{closingsOf, noneClosed}
 use Rattle.walk.specs.Contracts.{withReason, RoomToCount}
 use Rattle.walk.specs.Walk.{StepAnswer, foldOf, reasonOf}
 use Rattle.walk.proofs.ClosingLaws.{closings-more}
@@ -107,7 +107,7 @@ module _ (v f target : ℕ) (limit : Limit) (bound : Float) where
     pub counts : closed ≡ closingsOf (reasonsTold steps)
 
   -- before the first step
-  pub chaining-start : (m : Moment) → HeldAt v f target limit bound m → Chaining m m 0 (record { unlinked = 0; squashed = 0; turned = 0 })
+  pub chaining-start : (m : Moment) → HeldAt v f target limit bound m → Chaining m m 0 noneClosed
   unfolding Chain toldIn foldsIn below closingsOf sum
   chaining-start m held =
       record { steps = []; walking = walking-start (byHeap v f bound) target limit bound m held; chain = refl; listed = refl; counts = refl }

@@ -23,7 +23,6 @@ use plainwalk::Step;
 use plainwalk::Stepped;
 use plainwalk::Walked;
 use queue::Taken;
-use walk::Closings;
 use walk::Pair;
 
 // Tries a pair that is off the queue: the mesh is folded where that is allowed, and then both stamps rise and the pairs around keep are entered; where it isn't
@@ -141,11 +140,7 @@ fn walk_on(
     let mut queued = entries;
     let mut faces_live = live;
     let mut folds = 0;
-    let mut closed = Closings {
-        unlinked: 0,
-        squashed: 0,
-        turned: 0,
-    };
+    let mut closed = walk::none_closed();
     loop {
         let stepped = heap_step(w, p, q, v, f, queued, faces_live, target, bounds);
         queued = stepped.open;

@@ -29,14 +29,14 @@ use Rattle.walk.specs.declared.Closings.{Closings}
 use Rattle.walk.specs.FoldTest.{harm, orElse, firstHarm, faceTest, foldTest}
 use Rattle.walk.specs.Pairs.{pairOf, pairsBelow, eligiblePair, order, least, opened}
 use Rattle.walk.specs.Walk.{walk, collected, foldOf, reasonOf, toldBy, budget, started, tried, chosen, answer, after}
-use Rattle.walk.specs.Closings.{closingsOf}
+use Rattle.walk.specs.Closings.{closingsOf, noneClosed}
 use Rattle.walk.specs.Output.{used, placeIn, renumbered, numbersOf}
 use Rattle.meaning.specs.Arithmetic.{squashedPoints, turnedPoints, mergedVertex, rulesOf}
 use Rattle.meaning.specs.Start.{gathered, startKind, fixedCount, startMesh}
 use Rattle.meaning.specs.Input.{Input}
 use Rattle.meaning.specs.Answers.{faceVerdict, marginVerdict, contentsVerdict, verdictOf}
 use Rattle.meaning.specs.declared.Answer.{Answer}
-use Rattle.meaning.specs.Outcome.{rulesIn, startOf, targetOf, lastMesh, foldsWalked, closedWalked, partsIn, noneClosed, withoutMesh, refusal, Outcome, outcomeBy, outcome, foldsBy, foldsOf, pairNumbers}
+use Rattle.meaning.specs.Outcome.{rulesIn, startOf, targetOf, lastMesh, foldsWalked, closedWalked, partsIn, withoutMesh, refusal, Outcome, outcomeBy, outcome, foldsBy, foldsOf, pairNumbers}
 
 -- a mesh in a unit, its points by their bits, with a margin, a ratio by its bits, preserve on or off and a limit, and room for ten points and ten faces
 abbrev measured : (unit : ℕ) (points faces margin : List ℕ) → ℕ → Bool → Limit → Input

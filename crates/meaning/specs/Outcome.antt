@@ -11,7 +11,7 @@ use Rattle.walk.specs.declared.Pair.{Pair}
 use Rattle.walk.specs.Faces.{facesOf, Rules, Mesh}
 use Rattle.walk.specs.declared.Closings.{Closings}
 use Rattle.walk.specs.Walk.{walk, foldList, reasonList, State, started, budget, plainMachine}
-use Rattle.walk.specs.Closings.{closingsOf}
+use Rattle.walk.specs.Closings.{closingsOf, noneClosed}
 use Rattle.walk.specs.Output.{used, renumbered, numbersOf}
 use Rattle.meaning.specs.Start.{fixedCount, startMesh}
 use Rattle.meaning.specs.Arithmetic.{rulesOf}
@@ -75,9 +75,6 @@ abbrev pub withoutMesh : ℕ → ℕ → Closings → Answer
 withoutMesh number place closed = record { number = number; place = place; points = 0; faces = 0; folds = 0; closed = closed }
 
 -- without a walk no pair is closed
-abbrev pub noneClosed : Closings
-noneClosed = record { unlinked = 0; squashed = 0; turned = 0 }
-
 abbrev pub refusal : ℕ → ℕ → Answer
 refusal number place = withoutMesh number place noneClosed
 

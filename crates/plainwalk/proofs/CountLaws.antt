@@ -9,7 +9,7 @@ use Rattle.placement.specs.declared.Limit.{Limit}
 use Rattle.walk.specs.declared.Closings.{Closings}
 use Rattle.walk.specs.declared.Pair.{Pair}
 use Rattle.walk.specs.declared.Reason.{Reason}
-use Rattle.walk.specs.Closings.{closingsOf}
+use Rattle.walk.specs.Closings.{closingsOf, noneClosed}
 use Rattle.walk.specs.Contracts.{withReason, RoomToCount}
 use Rattle.walk.proofs.ClosingLaws.{closings-more}
 use Rattle.plainwalk.specs.declared.Step.{Step}
@@ -26,7 +26,7 @@ pub record Counting {v f : ℕ} (h : Holding v f) (target : ℕ) (limit : Limit)
 
 -- before the first step
 pub counting-start : {v f : ℕ} (h : Holding v f) (target : ℕ) (limit : Limit) (bound : Float) (m : Moment) → h .Held m →
-    Counting h target limit bound m m 0 (record { unlinked = 0; squashed = 0; turned = 0 })
+    Counting h target limit bound m m 0 noneClosed
 unfolding closingsOf sum
 counting-start h target limit bound m held = record { reasons = []; walking = walking-start h target limit bound m held; counts = refl }
 

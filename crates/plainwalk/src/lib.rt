@@ -128,11 +128,7 @@ fn walk_on(
     let mut pairs_open = open;
     let mut faces_live = live;
     let mut folds = 0;
-    let mut closed = Closings {
-        unlinked: 0,
-        squashed: 0,
-        turned: 0,
-    };
+    let mut closed = walk::none_closed();
     loop {
         let stepped = plain_step(w, p, q, v, f, pairs_open, faces_live, target, bounds);
         pairs_open = stepped.open;

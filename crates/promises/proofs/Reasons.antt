@@ -31,14 +31,15 @@ use Rattle.walk.proofs.FirstLaws.{live-found}
 use Rattle.walk.proofs.NumberLaws.{Numbered, member-live, start-numbered, walk-numbered}
 use Rattle.meaning.specs.declared.Verdict.{Verdict}
 use Rattle.meaning.specs.declared.Verdict.the-variants.{Refused, Copied, Admitted}
-use Rattle.meaning.specs.Input.{Input, pointsIn, facesIn}
+use Rattle.meaning.specs.Input.{Input, facesIn}
 use Rattle.meaning.specs.Answers.{verdictOf}
 use Rattle.meaning.specs.Arithmetic.{rulesOf, squashedPoints, turnedPoints}
 use Rattle.meaning.specs.Start.{startMesh}
-use Rattle.meaning.specs.Outcome.{rulesIn, startOf, targetOf, foldsWalked, closedWalked, stuck, fixedIn, noneClosed, outcome, outcomeBy}
+use Rattle.meaning.specs.Outcome.{rulesIn, startOf, targetOf, foldsWalked, closedWalked, stuck, fixedIn, outcome, outcomeBy}
+use Rattle.walk.specs.Closings.{noneClosed}
 use Rattle.promises.specs.Steps.{stateAt, answerAt, foldsTo, reasonsTo, budgetOf, facesAt}
 use Rattle.promises.specs.Fair.{holdsOne}
-use Rattle.promises.specs.Reasons.{faceNow, numbersAt, squashes, turnsOver, LowestHarmed, ReasonTrue}
+use Rattle.promises.specs.Reasons.{faceNow, numbersAt, squashes, turnsOver, LowestHarmed, linkedAt, ReasonTrue}
 use Rattle.promises.proofs.Refused.{early, late-stuck}
 use Rattle.promises.proofs.Ended.{start-faces, start-count, states-points, walk-has-ended}
 
@@ -110,27 +111,28 @@ module _ (i : Input) (n : ℕ) (p : Pair) where
             harmless j (holdsOne p (faceNow i n j)) (squashes i n p j) (turnsOver i n p j) (sym (told-is j) ∙ lower j less (live-is-number i n j there)) asked;
       }
 
-  -- so a reason that the faces give is that of the lowest face harmed
-  harmed-true : (reason : Reason) → firstHarm (faceTest (rulesIn i) (stateAt i n .mesh) p) (facesAt i n) (numbersAt i n) ≡ Not reason → ReasonTrue i n p reason
-  harmed-true reason e =
+  -- so a reason that the faces give, where the points are linked, is that of the lowest face harmed
+  harmed-true :
+      (reason : Reason) → linkedAt i n p ≡ true → firstHarm (faceTest (rulesIn i) (stateAt i n .mesh) p) (facesAt i n) (numbersAt i n) ≡ Not reason
+      → ReasonTrue i n p reason
+  harmed-true reason are-linked e =
       let (k, small, live, here, lower) =
       live-found (faceTest (rulesIn i) (stateAt i n .mesh) p) (faceNow i n) (numbered i n .alive) (facesIn i) reason (sym told-first ∙ e) in
       let (one, why) = harmed-why k (holdsOne p (faceNow i n k)) (squashes i n p k) (turnsOver i n p k) reason (sym (told-is k) ∙ here) in
       let lowest = lowest-harmed k small live one lower in
       ⊎-elim
-      (λ (squashed, is). subst (ReasonTrue i n p) is (lowest, squashed))
-      (λ (not-squashed, turned, is). subst (ReasonTrue i n p) is (lowest, not-squashed, turned))
+      (λ (squashed, is). subst (ReasonTrue i n p) is (are-linked, lowest, squashed))
+      (λ (not-squashed, turned, is). subst (ReasonTrue i n p) is (are-linked, lowest, not-squashed, turned))
       why
 
 -- A pair that was closed after n steps was closed for what is so there.
 pub reason-true : (i : Input) → verdictOf i ≡ Admitted → (n : ℕ) (p : Pair) (reason : Reason) → answerAt i n ≡ closed p reason → ReasonTrue i n p reason
 reason-true i admitted n p reason e =
+    let same : linkedAt i n p ≡ linked (length (stateAt i n .mesh .points)) (facesAt i n) (p .keep) (p .remove) =
+    ap (λ (v : ℕ). linked v (facesAt i n) (p .keep) (p .remove)) (sym (states-points i admitted n)) in
     ⊎-elim
-    (λ (apart, is).
-    let not-linked : linked (pointsIn i) (facesAt i n) (p .keep) (p .remove) ≡ false =
-    ap (λ (v : ℕ). linked v (facesAt i n) (p .keep) (p .remove)) (sym (states-points i admitted n)) ∙ apart in
-    subst (ReasonTrue i n p) is not-linked)
-    (λ harmed. harmed-true i n p reason harmed)
+    (λ (apart, is). subst (ReasonTrue i n p) is (same ∙ apart))
+    (λ (are-linked, harmed). harmed-true i n p reason (same ∙ are-linked) harmed)
     (not-allowed (rulesIn i) (stateAt i n .mesh) p reason (answer-closed (rulesIn i) (targetOf i) (stateAt i n) p reason e .1))
 
 -- ---- each reason counted is that of a step

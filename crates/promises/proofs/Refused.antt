@@ -12,7 +12,8 @@ use Rattle.meaning.specs.declared.Verdict.{Verdict}
 use Rattle.meaning.specs.declared.Verdict.the-variants.{Refused, Copied, Admitted}
 use Rattle.meaning.specs.Input.{Input}
 use Rattle.meaning.specs.Answers.{verdictOf}
-use Rattle.meaning.specs.Outcome.{stuck, fixedIn, noneClosed, Outcome, outcome, outcomeBy}
+use Rattle.meaning.specs.Outcome.{stuck, fixedIn, Outcome, outcome, outcomeBy}
+use Rattle.walk.specs.Closings.{noneClosed}
 use Rattle.promises.specs.Table.{Given, row-1, row-2, row-3, row-4, row-5, row-6, row-24, row-7, row-zero, row-8, row-9, row-12, row-10, row-11, row-0}
 use Rattle.promises.proofs.Rows.{verdict-1, verdict-2, verdict-3, verdict-4, verdict-5, verdict-6, verdict-24, verdict-7, verdict-zero, verdict-8, verdict-9, verdict-12, verdict-admitted}
 use Rattle.promises.proofs.ExactlyWhen.{exactly-when}

@@ -48,8 +48,13 @@ pub record LowestHarmed (i : Input) (n : ℕ) (p : Pair) (k : ℕ) : Type 0 wher
       (j : ℕ) → j < k → List·Memᴰ j (numbersAt i n) → holdsOne p (faceNow i n j) ≡ true
       → (squashes i n p j ≡ false) × (turnsOver i n p j ≡ false)
 
--- What a reason says of a pair after n steps: its points are not linked; or the fold would squash the lowest face that it harms; or turn it over.
+-- whether the pair's points are linked after n steps
+abbrev pub linkedAt : Input → ℕ → Pair → Bool
+linkedAt i n p = linked (pointsIn i) (facesAt i n) (p .keep) (p .remove)
+
+-- What a reason says of a pair after n steps: its points are not linked; or they are, and the fold would squash the lowest face that it harms; or it would not
+-- squash it and turn it over.
 abbrev pub ReasonTrue : Input → ℕ → Pair → Reason → Type 0
-ReasonTrue i n p NotLinked = linked (pointsIn i) (facesAt i n) (p .keep) (p .remove) ≡ false
-ReasonTrue i n p (Squashed k) = LowestHarmed i n p k × (squashes i n p k ≡ true)
-ReasonTrue i n p (TurnedOver k) = LowestHarmed i n p k × (squashes i n p k ≡ false) × (turnsOver i n p k ≡ true)
+ReasonTrue i n p NotLinked = linkedAt i n p ≡ false
+ReasonTrue i n p (Squashed k) = (linkedAt i n p ≡ true) × LowestHarmed i n p k × (squashes i n p k ≡ true)
+ReasonTrue i n p (TurnedOver k) = (linkedAt i n p ≡ true) × LowestHarmed i n p k × (squashes i n p k ≡ false) × (turnsOver i n p k ≡ true)

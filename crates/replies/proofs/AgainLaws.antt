@@ -17,7 +17,8 @@ use Rattle.units.specs.declared.Unit.{Unit}
 use Rattle.units.specs.Units.{unitNumber, unitBound}
 use Rattle.units.proofs.UnitLaws.{unit-of-number, number-known}
 use Rattle.meaning.specs.Input.{Input}
-use Rattle.meaning.specs.Outcome.{Outcome, outcomeBy, outcome, noneClosed}
+use Rattle.meaning.specs.Outcome.{Outcome, outcomeBy, outcome}
+use Rattle.walk.specs.Closings.{noneClosed}
 use Rattle.promises.specs.Finite.{small}
 use Rattle.promises.proofs.Finite.{outcome-finite}
 use Rattle.checks.specs.Facts.{Copiable}

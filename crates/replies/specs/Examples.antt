@@ -25,12 +25,12 @@ use Rattle.walk.specs.FoldTest.{harm, orElse, firstHarm, faceTest, foldTest}
 use Rattle.walk.specs.Pairs.{pairsBelow, order, least, opened}
 use Rattle.walk.specs.Walk as walked
 use Rattle.walk.specs.Walk.{walk, collected, foldOf, reasonOf, budget, started, tried, chosen, answer, after}
-use Rattle.walk.specs.Closings.{closingsOf}
+use Rattle.walk.specs.Closings.{closingsOf, noneClosed}
 use Rattle.walk.specs.Output.{used, placeIn, renumbered, numbersOf}
 use Rattle.meaning.specs.Arithmetic.{squashedPoints, turnedPoints, mergedVertex, rulesOf}
 use Rattle.meaning.specs.Start.{gathered, startKind, fixedCount, startMesh}
 use Rattle.meaning.specs.Answers.{faceVerdict, marginVerdict, contentsVerdict, verdictOf}
-use Rattle.meaning.specs.Outcome.{startOf, targetOf, lastMesh, foldsWalked, closedWalked, noneClosed, partsIn, outcomeBy, outcome}
+use Rattle.meaning.specs.Outcome.{startOf, targetOf, lastMesh, foldsWalked, closedWalked, partsIn, outcomeBy, outcome}
 use Rattle.records.specs.Words.{fourBytes, numbersFrom, asFours}
 use Rattle.records.specs.Records.{recordsBytes}
 use Rattle.scanfile.specs.Faults.{recordFault, optionsFault}

@@ -8,7 +8,8 @@ use Rattle.meaning.specs.Input.{Input}
 use Rattle.meaning.specs.declared.Answer.{Answer}
 use Rattle.meaning.specs.declared.Options.{Options}
 use Rattle.walk.specs.declared.Closings.{Closings}
-use Rattle.meaning.specs.Outcome.{Outcome, outcome, noneClosed}
+use Rattle.meaning.specs.Outcome.{Outcome, outcome}
+use Rattle.walk.specs.Closings.{noneClosed}
 use Rattle.scanfile.specs.declared.Head.{Head}
 use Rattle.scanfile.specs.declared.Scan.{Scan}
 use Rattle.scanfile.specs.declared.Scan.the-variants.{Good, Bad}

@@ -5,7 +5,7 @@ ghost use Prim.Native.Nat.{_+_, _*_, _≤_};
 ghost use lib.ListN.{length, take};
 ghost use Rattle.scanfile.specs.declared.Scan.the-variants.{Good};
 ghost use Rattle.scanfile.specs.Scans.{scanOf};
-ghost use Rattle.meaning.specs.Outcome.{outcome, noneClosed};
+ghost use Rattle.meaning.specs.Outcome.{outcome};
 ghost use Rattle.lists.specs.Puts.{Put};
 ghost use Rattle.listing.specs.Texts.{meshText};
 ghost use Rattle.units.specs.Units.{unitNumber};
@@ -261,24 +261,13 @@ fn write_good(out: &mut [u8], wanted: Wanted, bytes: &[u8], head: Head) -> Reply
     )
 }
 
-// No pair is closed where a file is refused.
-fn none_closed() -> Closings
-    ensures { λ r. ⌜ r ≡ noneClosed ⌝ }
-{
-    Closings {
-        unlinked: 0,
-        squashed: 0,
-        turned: 0,
-    }
-}
-
 // Writes the reply to a file.
 pub fn write_reply(out: &mut [u8], wanted: Wanted, bytes: &[u8]) -> Reply
     requires { ⌜ 12288 ≤ length (now out) ⌝ }
     ensures { λ r. ⌜ Replied wanted (replyOf wanted (now (bytes .entry))) (now (out .entry)) (now (out .exit)) r ⌝ }
 {
     match scanfile::read_scan(bytes) {
-        Scan::Bad(number, place) => write_refusal(out, wanted, number, place, none_closed()),
+        Scan::Bad(number, place) => write_refusal(out, wanted, number, place, walk::none_closed()),
         Scan::Good(head) => write_good(out, wanted, bytes, head),
     }
 }

@@ -15,7 +15,8 @@ use Rattle.memory.specs.Memory.{liveFaces}
 use Rattle.memory.specs.Points.{partsOf}
 use Rattle.mesh.specs.Contracts.Chains.{Tidy}
 use Rattle.meaning.specs.declared.Answer.{Answer}
-use Rattle.meaning.specs.Outcome.{Outcome, stuckAnswer, noneClosed}
+use Rattle.meaning.specs.Outcome.{Outcome, stuckAnswer}
+use Rattle.walk.specs.Closings.{noneClosed}
 use Rattle.walk.specs.declared.Closings.{Closings}
 use Rattle.meaning.specs.Call.{Lent, leftAs}
 use Rattle.walking.specs.declared.Came.{Came}

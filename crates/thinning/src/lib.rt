@@ -33,22 +33,11 @@ fn without_mesh(number: u32, place: u32, closed: Closings) -> Answer
     }
 }
 
-// No pair is closed where nothing is walked.
-fn none_closed() -> Closings
-    ensures { λ r. ⌜ r ≡ Outcomes.noneClosed ⌝ }
-{
-    Closings {
-        unlinked: 0,
-        squashed: 0,
-        turned: 0,
-    }
-}
-
 // A refusal before the walk.
 fn refusal(number: u32, place: u32) -> Answer
     ensures { λ r. ⌜ r ≡ Outcomes.refusal number place ⌝ }
 {
-    without_mesh(number, place, none_closed())
+    without_mesh(number, place, walk::none_closed())
 }
 
 // 10 where points are fixed, and else 11; and why pairs were closed.
@@ -90,7 +79,7 @@ fn copied(
     let f = faces.len() / 3;
     output::copy_mesh(points, faces, out_points, out_faces);
     clear(w, p, q, v, f);
-    let closed = none_closed();
+    let closed = walk::none_closed();
     Answer {
         number: 0,
         place: 0,

@@ -69,7 +69,8 @@ both-allowed (Not reason) u e = let z : _≡_ {A = ℕ} 0 1 = cc in absurd (omeg
 pub harmless : (number : ℕ) (is squashed turned : Bool) → harm number is squashed turned ≡ Allowed → is ≡ true → (squashed ≡ false) × (turned ≡ false)
 unfolding harm
 harmless number true false false e is = (refl, refl)
-harmless number true true turned e is = let z : _≡_ {A = ℕ} 0 1 = cc in absurd (omega arith)
+harmless number true true true e is = let z : _≡_ {A = ℕ} 0 1 = cc in absurd (omega arith)
+harmless number true true false e is = let z : _≡_ {A = ℕ} 0 1 = cc in absurd (omega arith)
 harmless number true false true e is = let z : _≡_ {A = ℕ} 0 1 = cc in absurd (omega arith)
 harmless number false squashed turned e is = absurd (clash is refl)
 
@@ -77,7 +78,8 @@ harmless number false squashed turned e is = absurd (clash is refl)
 pub harmed-why : (number : ℕ) (is squashed turned : Bool) (reason : Reason) → harm number is squashed turned ≡ Not reason →
     (is ≡ true) × (((squashed ≡ true) × (Squashed number ≡ reason)) ⊎ ((squashed ≡ false) × (turned ≡ true) × (TurnedOver number ≡ reason)))
 unfolding harm
-harmed-why number true true turned reason e = (refl, inl (refl, ap why e))
+harmed-why number true true true reason e = (refl, inl (refl, ap why e))
+harmed-why number true true false reason e = (refl, inl (refl, ap why e))
 harmed-why number true false true reason e = (refl, inr (refl, refl, ap why e))
 harmed-why number true false false reason e = let z : _≡_ {A = ℕ} 0 1 = cc in absurd (omega arith)
 harmed-why number false squashed turned reason e = let z : _≡_ {A = ℕ} 0 1 = cc in absurd (omega arith)
@@ -97,11 +99,11 @@ all-pass {P} test says (g ∷ faces) numbers e f m =
 -- a fold that isn't allowed: the points are not linked, or they are, and the reason is that of the first face that fails
 pub not-allowed : {D : Type 0} (rules : Rules D) (m : Mesh D) (p : Pair) (reason : Reason) → foldTest rules m p ≡ Not reason →
     ((linked (length (m .points)) (m .faces) (p .keep) (p .remove) ≡ false) × (NotLinked ≡ reason))
-    ⊎ (firstHarm (faceTest rules m p) (m .faces) (m .numbers) ≡ Not reason)
+    ⊎ ((linked (length (m .points)) (m .faces) (p .keep) (p .remove) ≡ true) × (firstHarm (faceTest rules m p) (m .faces) (m .numbers) ≡ Not reason))
 unfolding foldTest
 not-allowed rules m p reason e =
     by-test (linked (length (m .points)) (m .faces) (p .keep) (p .remove))
-    (λ t. inr (rw t at e))
+    (λ t. inr (t, rw t at e))
     (λ t. let none : Not NotLinked ≡ Not reason = rw t at e in inl (t, ap why none))
 
 module _ {D : Type 0} (rules : Rules D) (m : Mesh D) (p : Pair) (is-allowed : foldTest rules m p ≡ Allowed) where

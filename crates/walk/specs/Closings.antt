@@ -22,6 +22,10 @@ isTurnedOver NotLinked = false
 isTurnedOver (Squashed face) = false
 isTurnedOver (TurnedOver face) = true
 
+-- none closed
+abbrev pub noneClosed : Closings
+noneClosed = record { unlinked = 0; squashed = 0; turned = 0 }
+
 -- how many reasons of a list are of each kind
 unfoldable pub closingsOf : List Reason → Closings
 unfolding sum

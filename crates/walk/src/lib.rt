@@ -1,6 +1,7 @@
 // Faces and pairs of points, by value, and in specs/ the meaning of the mesh, the fold and the walk over them.
 ghost use mathlib.Core.Path.{_≡_};
 ghost use Rattle.walk.specs.Faces.{holds};
+ghost use Rattle.walk.specs.Closings.{noneClosed};
 ghost use Rattle.walk.specs.Contracts.{withReason, RoomToCount};
 
 // A triangle: the numbers of its three points, in order.
@@ -47,6 +48,17 @@ pub fn face_holds(x: u32, f: Face) -> bool
         return true;
     }
     x == f.c
+}
+
+// No pair closed.
+pub fn none_closed() -> Closings
+    ensures { λ r. ⌜ r ≡ noneClosed ⌝ }
+{
+    Closings {
+        unlinked: 0,
+        squashed: 0,
+        turned: 0,
+    }
 }
 
 // One pair more is closed, for a reason.

@@ -5,7 +5,7 @@ use Rattle.foldtest.proofs.lower_harmed.Statement.{statement}
 use Rattle.foldtest.proofs.lower_harmed.Tie as tie
 
 returns : tie.Need-returns
-returns c = rw (le-ltb _ _ (c .if1 .taken))
+returns c = let a = c .before .before .before .args in rw (le-ltb (a .k) (a .lowest) (c .if1 .taken))
 
 is-harmed-requires : tie.Need-is-harmed-requires
 is-harmed-requires c κs = c .before .before .before .pre

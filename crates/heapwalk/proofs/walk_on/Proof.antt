@@ -20,8 +20,9 @@ abbrev μ-loop : tie.MeasureT-loop
 
 loop-holds : tie.Need-loop-holds Inv-loop μ-loop
 loop-holds c =
-    let start = c .before .before .before in
-    chaining-start (start .args .v) (start .args .f) (start .args .target) (start .args .bounds .limit) (start .args .bounds .size) _ (start .pre)
+    let start = c .before .before .before .before in
+    rw (c .none-closed .ensures)
+    (chaining-start (start .args .v) (start .args .f) (start .args .target) (start .args .bounds .limit) (start .args .bounds .size) _ (start .pre))
 
 heap-step-requires : tie.Need-heap-step-requires Inv-loop μ-loop
 heap-step-requires c κs = c .before .before .before .loop .inv .walking .going .holds
@@ -34,7 +35,7 @@ note-fold-requires c κs =
 add-folds : tie.Need-add-folds Inv-loop μ-loop
 add-folds c =
     let turn = c .before .before .before .before .before .before .before .before .before .before .before .before .before .before .before .before .before in
-    omega (arith, folds-few (turn .loop .inv .walking), turn .before .before .before .before .pre .«open» .tidy .room)
+    omega (arith, folds-few (turn .loop .inv .walking), turn .before .before .before .before .before .pre .«open» .tidy .room)
 
 loop-less : tie.Need-loop-less Inv-loop μ-loop
 loop-less c =
@@ -78,6 +79,7 @@ walk-on-spec =
     (tie.spec
     Inv-loop
     μ-loop
+    (λ c κs. search needs)
     loop-holds
     heap-step-requires
     (λ c. search needs)
