@@ -1,5 +1,5 @@
--- Document 01's examples of whole calls, some with a margin, and one in both units, as one list with one proof over it. The proof computes them from the
--- definitions.
+-- Document 01's examples of whole calls, some with a margin, and one in both units, as one list with one proof over it; and others of kinds, limits and
+-- reasons. The proofs compute them from the definitions.
 use Prim.Native.Nat.{ℕ}
 use mathlib.Core.Path.{_≡_, refl}
 use mathlib.Core.List.{List, [], _∷_, map, flatMap}
@@ -26,6 +26,9 @@ use Rattle.lists.specs.Lists.{those, beside, every, some, without, below, first
 use Rattle.walk.specs.Faces.{borderPoint}
 use Rattle.walk.specs.Fold.{foldedFaces, leftNumbers, foldedMesh}
 use Rattle.walk.specs.declared.Closings.{Closings}
+use Rattle.walk.specs.declared.Reason.the-variants.{NotLinked, Squashed, TurnedOver}
+use Rattle.walk.specs.declared.Tested.{Tested}
+use Rattle.walk.specs.declared.Tested.the-variants.{Not}
 use Rattle.walk.specs.FoldTest.{harm, orElse, firstHarm, faceTest, foldTest}
 use Rattle.walk.specs.Pairs.{pairOf, pairsBelow, eligiblePair, order, least, opened}
 use Rattle.walk.specs.Walk.{walk, collected, foldOf, reasonOf, toldBy, budget, started, tried, chosen, answer, after}
@@ -203,3 +206,48 @@ limited limit = square 0x3f00_0000 false (AtMost (ofBits binary32 limit))
 pub limits-hold : map (λ l. eligiblePair (rulesIn (limited (l .0))) (startOf (limited (l .0)) .mesh) (pairOf 0 1)) limits ≡ map (λ l. l .1) limits
 unfolding startOf startMesh startKind gathered rulesOf started those some below lists.sum borderPoint placeOf fallback cheaper tested stands solved eligible pairCost pairPlace pairLength pairQuadric inverse errorAt planeOf unitNormal allFinite normal norm root rootBits finiteRoot bitsRoot.largest halfway fourfold steps floatKey orderKey narrowed span climb size odd units round neg ieee.sum add sub mul div lt eq le ofInt toUnsigned isNan ofFields ofBits toBits
 limits-hold = refl
+
+-- ---- why a pair is closed
+
+-- (0,0,0) (1,0,0) (0,9,0) (0,4,0) (0,8,0) (0.5,5,0) (0.5,-5,0) (3,5,0) with some faces, at ratio 1 and limit 1.0: only the pair (0,1) may be opened, and its
+-- fold moves the point 1 to the point 0. That squashes a face 1 3 4, and turns over a face 1 5 6
+abbrev leaves : (faces : List ℕ) → Input
+leaves faces =
+    meshWith
+    (0 ∷ 0 ∷ 0
+    ∷ 0x3f80_0000 ∷ 0 ∷ 0
+    ∷ 0 ∷ 0x4110_0000 ∷ 0
+    ∷ 0 ∷ 0x4080_0000 ∷ 0
+    ∷ 0 ∷ 0x4100_0000 ∷ 0
+    ∷ 0x3f00_0000 ∷ 0x40a0_0000 ∷ 0
+    ∷ 0x3f00_0000 ∷ 0xc0a0_0000 ∷ 0
+    ∷ 0x4040_0000 ∷ 0x40a0_0000 ∷ 0
+    ∷ [])
+    faces [] 0x3f80_0000 false (AtMost (ofBits binary32 0x3f80_0000))
+
+-- faces, what the fold test says of that pair at the start, and the pairs closed, of an answer 11
+pub record Reasoned : Type 0 where
+  pub faces : List ℕ
+  pub told : Tested
+  pub closed : Closings
+
+abbrev pub reasons : List Reasoned
+reasons =
+    -- a face squashed, and one turned over
+    record { faces = 0 ∷ 1 ∷ 2 ∷ 1 ∷ 3 ∷ 4 ∷ []; told = Not (Squashed 1); closed = closing 0 1 0 }
+    ∷ record { faces = 1 ∷ 5 ∷ 6 ∷ 0 ∷ 1 ∷ 2 ∷ []; told = Not (TurnedOver 0); closed = closing 0 0 1 }
+    -- both: the lower face is told
+    ∷ record { faces = 0 ∷ 1 ∷ 2 ∷ 1 ∷ 3 ∷ 4 ∷ 1 ∷ 5 ∷ 6 ∷ []; told = Not (Squashed 1); closed = closing 0 1 0 }
+    ∷ record { faces = 0 ∷ 1 ∷ 2 ∷ 1 ∷ 5 ∷ 6 ∷ 1 ∷ 3 ∷ 4 ∷ []; told = Not (TurnedOver 1); closed = closing 0 0 1 }
+    -- the points are not linked, by a common neighbour 3 without a face, and a face is squashed: linking comes first
+    ∷ record { faces = 1 ∷ 3 ∷ 4 ∷ 0 ∷ 1 ∷ 2 ∷ 0 ∷ 3 ∷ 5 ∷ []; told = Not NotLinked; closed = closing 1 0 0 }
+    -- two faces open the pair, which counts once
+    ∷ record { faces = 0 ∷ 1 ∷ 2 ∷ 0 ∷ 1 ∷ 7 ∷ 1 ∷ 3 ∷ 4 ∷ []; told = Not (Squashed 2); closed = closing 0 1 0 }
+    ∷ []
+
+-- they come out
+pub reasons-hold :
+    map {B = Tested × Answer} (λ e. (foldTest (rulesIn (leaves (e .faces))) (startOf (leaves (e .faces)) .mesh) (pairOf 0 1), outcome (leaves (e .faces)) .answer)) reasons
+    ≡ map {B = Tested × Answer} (λ e. (e .told, withoutMesh 11 0 (e .closed))) reasons
+unfolding outcome outcomeBy partsIn foldsWalked lastMesh targetOf startOf startMesh fixedCount startKind gathered rulesOf mergedVertex squashedPoints turnedPoints numbersOf renumbered placeIn used closedWalked closingsOf collected walk after answer chosen tried toldBy opened started least order budget foldOf reasonOf pairsBelow foldedMesh leftNumbers foldTest faceTest firstHarm orElse harm foldedFaces borderPoint without those beside every some below lists.sum placeOf fallback cheaper tested stands solved eligible pairCost pairPlace pairLength pairQuadric inverse errorAt planeOf unitNormal allFinite normal norm root rootBits finiteRoot bitsRoot.largest halfway fourfold steps floatKey orderKey narrowed cut target flatMap verdictOf contentsVerdict faceVerdict marginVerdict firstOf span climb size odd units round neg ieee.sum add sub mul div lt eq le ofInt toUnsigned isNan ofFields ofBits toBits
+reasons-hold = refl

@@ -2,12 +2,18 @@
 use Prim.Native.Nat.{ℕ, _+_, _/_, _%_, _≤_}
 use mathlib.Core.Path.{_≡_}
 use mathlib.Core.List.{List, _∷_, [], _++_}
+use mathlib.Core.Bool.{Bool, true}
 use lib.ListN.{length}
 use Rattle.text.specs.Words.{ascii}
 use Rattle.thin.specs.declared.files.Got.{Got}
 use Rattle.thin.specs.declared.files.Got.the-variants.{Bytes, Failed}
 use Rattle.thin.specs.declared.files.Made.{Made}
 use Rattle.thin.specs.declared.files.Made.the-variants.{New, Nothing}
+
+-- an answer says exactly whether two words are the same
+pub record SaysSame (r : Bool) (word other : List ℕ) : Type 0 where
+  pub says : r ≡ true → word ≡ other
+  pub passes : word ≡ other → r ≡ true
 
 -- how many bytes were read
 abbrev pub sizeGot : Got → ℕ

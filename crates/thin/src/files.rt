@@ -4,7 +4,7 @@ ghost use Prim.Native.Nat.{_+_, _≤_, _<_};
 ghost use lib.ListN.{length};
 ghost use Rattle.lists.specs.Puts.{Put};
 ghost use Rattle.replies.specs.Contracts.{IsScan};
-ghost use Rattle.thin.specs.Contracts.{ReadIn, MadeIn, nameBeside};
+ghost use Rattle.thin.specs.Contracts.{SaysSame, ReadIn, MadeIn, nameBeside};
 use libc::STDERR_FILENO;
 use libc::STDIN_FILENO;
 use libc::STDOUT_FILENO;
@@ -53,7 +53,9 @@ fn read_all(descriptor: i32, name: &[u8], input: &mut [u8]) -> Got
 }
 
 // Whether two words are the same.
-fn is_same(word: &[u8], other: &[u8]) -> bool {
+fn is_same(word: &[u8], other: &[u8]) -> bool
+    ensures { λ r. ⌜ SaysSame r (now (word .entry)) (now (other .entry)) ⌝ }
+{
     if word.len() != other.len() {
         return false;
     }
