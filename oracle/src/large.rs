@@ -48,7 +48,7 @@ fn shuffled(case: &Case) -> Case {
 }
 
 /// With waves and some noise.
-fn waved(random: &mut Random, mesh: Mesh) -> Mesh {
+pub fn waved(random: &mut Random, mesh: Mesh) -> Mesh {
     let width = mesh.points.iter().flatten().fold(1.0, |most: f64, x| most.max(x.abs()));
     mesh.map(|[x, y, z]| {
         let wave = circle(x / width * 9.0).1 * circle(y / width * 7.0).0;

@@ -13,6 +13,11 @@
 //!     oracle large SHAPE SIDE RATIO
 //!
 //! writes one mesh several times, and says how long the Rust takes for it.
+//!
+//!     oracle mesh SHAPE SIDE
+//!     oracle time FILE RATIO TIMES
+//!
+//! are for bench/run: they write a mesh file, and time the Rust on one.
 
 mod answer;
 mod bad_input;
@@ -31,6 +36,7 @@ mod rules;
 mod shapes;
 mod single_cases;
 mod steps;
+mod timing;
 mod units;
 
 // The published file with quadric_error.patch applied by ./build.
@@ -56,6 +62,11 @@ fn main() -> io::Result<()> {
             let ratio = ratio.parse().unwrap_or_else(|_| usage());
             large::write(shape, number(side) as usize, ratio, &mut out)?
         }
+        ["mesh", shape, side] => timing::write(shape, number(side) as usize, &mut out)?,
+        ["time", file, ratio, times] => {
+            let ratio = ratio.parse().unwrap_or_else(|_| usage());
+            timing::time(file, ratio, number(times), &mut out)?
+        }
         [seed, count, most] => meshes(number(seed), number(count), number(most), None, &mut out)?,
         [seed, count, most, name] => {
             let only = Some(families::number_of(name));
@@ -74,6 +85,8 @@ fn usage() -> ! {
     eprintln!("usage: oracle SEED COUNT MOST_FACES [FAMILY]");
     eprintln!("       oracle single SEED COUNT");
     eprintln!("       oracle large SHAPE SIDE RATIO");
+    eprintln!("       oracle mesh SHAPE SIDE");
+    eprintln!("       oracle time FILE RATIO TIMES");
     std::process::exit(2)
 }
 

@@ -7,10 +7,12 @@ pub mod FloatOrder
 pub mod RootTies
 pub mod RootLaws
 pub mod RootValues
+pub mod RootOrder
 pub mod RootScaled
 pub mod HalfEven
 pub mod Rounded
 pub mod SignedExponent
 pub mod NarrowLaws
 pub mod OrderLaws
+pub mod FinitePatterns
 pub mod CutLaws

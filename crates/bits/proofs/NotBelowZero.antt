@@ -3,7 +3,7 @@ use Prim.Native.Nat.{ℕ, zero, suc, _+_, _*_, _≤_, _<_, _^_}
 use mathlib.Core.Bool.{Bool, true, false, not, cond}
 use lib.IntN.{ℤ, pos}
 use lib.Dec.{T, ltb, eqb, eqb·suc-zero}
-use lib.Ieee.{Float, inf, fin, Format, prec, emax, low, odd, units, round, sum, add, mul, div, ofInt, isNan}
+use lib.Ieee.{Float, nan, inf, fin, Format, prec, emax, low, odd, units, round, sum, add, mul, div, ofInt, isNan}
 use lib.Ieee.Back.{round-whole}
 use lib.Ieee.Fits.{round-is}
 use lib.Ieee.Positive.{positive, positive-of-value}
@@ -40,7 +40,7 @@ units-sign : (f : Format) (q k : ℕ) → NotBelow (units f false q k)
 unfolding units
 units-sign f q k = either (ltb (q * 2 ^ k) (2 ^ (low f + suc (emax f)))) (odd-sign (suc (prec f)) q k (low f)) infinite
 
-round-sign : (f : Format) (a c : ℕ) → NotBelow (round f false a c)
+pub round-sign : (f : Format) (a c : ℕ) → NotBelow (round f false a c)
 round-sign f a c = rw (round-is f false a c) (units-sign f _ _)
 
 -- ---- the operations
@@ -70,3 +70,24 @@ above-of-positive (fin false (suc m) e) h = above
 pub above-of-whole : (f : Format) (n : ℕ) → 0 < n → n ≤ 2 ^ prec f → Above (ofInt f (pos n))
 unfolding ofInt
 above-of-whole f n h k = above-of-positive _ (positive-of-value (round f false n 1) n 1 (round-whole f false n k) h)
+
+-- ---- floats that may be a NaN, and are not below zero otherwise
+
+pub data NeverBelow : Float → Type 0 where
+  no-number : NeverBelow nan
+  some-number : {x : Float} → NotBelow x → NeverBelow x
+
+pub square-never-below : (f : Format) (x : Float) → NeverBelow (mul f x x)
+unfolding mul
+square-never-below f nan = no-number
+square-never-below f (inf true) = some-number infinite
+square-never-below f (inf false) = some-number infinite
+square-never-below f (fin true m e) = some-number (round-sign f _ _)
+square-never-below f (fin false m e) = some-number (round-sign f _ _)
+
+pub add-never-below : (f : Format) {x y : Float} → NeverBelow x → NeverBelow y → NeverBelow (add f x y)
+unfolding add
+add-never-below f no-number q = no-number
+add-never-below f (some-number number) no-number = no-number
+add-never-below f (some-number infinite) no-number = no-number
+add-never-below f (some-number p) (some-number q) = some-number (add-not-below f p q)

@@ -63,7 +63,7 @@ round-digits f s m k l g y e hi lo =
 -- ---- the pattern
 
 -- the pattern of a value hangs on the value alone
-bits-of-value : (f : Format) (s : Bool) (x : Float) (a : ℕ) → HasValue x s a (2 ^ low f)
+pub bits-of-value : (f : Format) (s : Bool) (x : Float) (a : ℕ) → HasValue x s a (2 ^ low f)
     → toBits f x ≡ cond s (top f) 0 + (size a - prec f) * hid f + a / 2 ^ (size a - prec f)
 unfolding toBits
 bits-of-value f s nan a v = absurd v

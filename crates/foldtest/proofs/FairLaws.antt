@@ -21,7 +21,7 @@ harm-second : (number : ℕ) (s t : Bool) → s ≡ false → t ≡ true → Not
 unfolding harm
 harm-second number s t e d = rw (e, d)
 
-harm-none : (number : ℕ) (s t : Bool) → s ≡ false → t ≡ false → Allowed ≡ harm number true s t
+pub harm-none : (number : ℕ) (s t : Bool) → s ≡ false → t ≡ false → Allowed ≡ harm number true s t
 unfolding harm
 harm-none number s t e d = rw (e, d)
 

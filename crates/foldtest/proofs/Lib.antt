@@ -1,4 +1,5 @@
 -- What follows from the definitions, and is no code.
+pub mod SquareLaws
 pub mod FairLaws
 pub mod LowestLaws
 pub mod HarmLaws

@@ -6,7 +6,7 @@ ghost use Rattle.geometry.specs.Points.{normal as normalOf};
 ghost use Rattle.meaning.specs.Input.{pointAt};
 ghost use Rattle.walk.specs.FoldTest.{harm};
 ghost use Rattle.meaning.specs.Arithmetic.{squashedNormals, turnedNormals};
-ghost use mathlib.Core.Bool.{true};
+ghost use mathlib.Core.Bool.{true, false};
 ghost use Rattle.foldtest.specs.Contracts.Fair.{Placed, squashed, turned, movedAt, squashedAt, turnedAt};
 use geometry::Point;
 use geometry::normal;
@@ -15,6 +15,18 @@ use placement::Fold;
 use walk::Face;
 use walk::Reason;
 use walk::Tested;
+
+// The least dot of two normals that decides by squares: half of a smaller one might not be exact.
+const LEAST_DOT: f32 = 1.0e-27;
+
+// The largest dot that does: with a larger one a product below might not be finite.
+const MOST_DOT: f32 = 1.0e27;
+
+// The square of a norm must be at most so many times the dot: 0.01 of the norms' product is then below the dot.
+const TIMES_DOT: f32 = 16.0;
+
+// The square before must be below so many times the square after, 2^30: 1e-6 of the norm before is then below the norm after.
+const TIMES_AFTER: f32 = 1073741824.0;
 
 // Where a point is after the fold.
 fn moved(p: &[f32], x: u32, fold: Fold) -> Point
@@ -68,10 +80,26 @@ fn is_turned(before: f32, after: f32, dot: f32) -> bool
     !(dot > 0.01 * before * after)
 }
 
-// What is told of the face of a number with these normals: squashed is asked before turned over. Each norm is worked out once.
+// Whether the squares of a face's norms and the dot of its normals before and after show that it is neither squashed nor turned over. The
+// products are exact, so no rounding counts.
+fn is_surely_fair(before: Point, after: Point) -> bool
+    ensures { λ r. ⌜ (r ≡ true → (squashedNormals before after ≡ false) × (turnedNormals before after ≡ false)) ⌝ }
+{
+    let dot = before.dot(after);
+    let most = TIMES_DOT * dot;
+    let b = before.dot(before);
+    let a = after.dot(after);
+    (LEAST_DOT <= dot) & (dot <= MOST_DOT) & (a <= most) & (b <= most) & (b < TIMES_AFTER * a)
+}
+
+// What is told of the face of a number with these normals: squashed is asked before turned over. Roots take long, so the norms are worked out only
+// where their squares leave it open, and each once.
 fn judged(number: usize, before: Point, after: Point) -> Tested
     ensures { λ r. ⌜ r ≡ harm number true (squashedNormals before after) (turnedNormals before after) ⌝ }
 {
+    if is_surely_fair(before, after) {
+        return Tested::Allowed;
+    }
     let b = before.norm();
     let a = after.norm();
     if is_squashed(b, a) {

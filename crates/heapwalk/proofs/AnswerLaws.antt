@@ -5,8 +5,8 @@ use native.Mathlib.Nat.{add-zero}
 use native.Mathlib.Omega.{arith}
 use mathlib.Core.Path.{_≡_, refl, sym, ap, subst, _∙_}
 use mathlib.Core.Logic.{inl, inr}
-use mathlib.Core.List.{List}
-use mathlib.Core.Bool.{cond, false≢true}
+use mathlib.Core.List.{List, []}
+use mathlib.Core.Bool.{cond}
 use lib.Dec.{leb}
 use lib.Ieee.{Float}
 use lib.ListN.{length}
@@ -14,7 +14,7 @@ use borrow.Author.Tests.{le-leb}
 use Rattle.geometry.specs.declared.Point.{Point}
 use Rattle.placement.specs.declared.Limit.{Limit}
 use Rattle.placement.specs.declared.pair.Vertex.{Vertex}
-use Rattle.lists.specs.Lists.{sum, those, some, without, below}
+use Rattle.lists.specs.Lists.{sum, those, without, below}
 use Rattle.walk.specs.Faces.{Mesh}
 use Rattle.walk.specs.declared.Reason.{Reason}
 use Rattle.walk.specs.declared.Tested.{Tested}
@@ -30,15 +30,15 @@ use Rattle.mesh.proofs.TidyLaws.{tidy-but}
 use Rattle.mesh.proofs.AroundLaws.{live-faces-but}
 use Rattle.memory.specs.Points.{meshOf}
 use Rattle.meaning.specs.Arithmetic.{rulesOf}
-use Rattle.memory.specs.Entries.{pairAt, entryPlace, stamp}
+use Rattle.memory.specs.Entries.{stamp}
 use Rattle.queue.specs.State.{openIn, heapState}
-use Rattle.queue.specs.Stored.{StoredEntry, stampsOf, entriesIn, Requeued}
-use Rattle.queue.specs.Contracts.Changes.{Fewer, NoneLeft}
+use Rattle.memory.specs.declared.entries.Entry.{Entry}
+use Rattle.queue.specs.Stored.{stampsOf, entriesIn, Requeued}
+use Rattle.queue.specs.Contracts.Changes.{NoneLeft}
 use Rattle.queue.proofs.RequeuedLaws.{requeued-none}
 use Rattle.queue.proofs.TakeLaws.{none-open}
-use Rattle.queue.proofs.TopLaws.{none-current}
 use Rattle.heapwalk.specs.Entries.{newEntries, raises}
-use Rattle.heapwalk.proofs.QueueFrames.{entries-lists}
+use Rattle.heapwalk.proofs.QueueFrames.{mesh-stays, entries-past}
 use Rattle.plainwalk.specs.declared.Step.the-variants.{Closed, Ended}
 use Rattle.plainwalk.specs.declared.Stepped.{Stepped}
 use Rattle.walk.proofs.StateLaws.{same-refl, sound-bag}
@@ -46,10 +46,9 @@ use Rattle.plainwalk.specs.Steps.{StepWithin}
 use Rattle.plainwalk.proofs.MemoryLaws.{within-refl, within-but}
 use Rattle.memory.proofs.MeshLaws.{mesh-but}
 use Rattle.heapwalk.specs.Steps.{HeapHolds, QueueStep, HeapStepDone}
-use Rattle.heapwalk.specs.Contracts.Trying.{pairState, TopHolds, PairHolds, PairAnswer, TopTried}
-use Rattle.queue.proofs.MovedLaws.{moved-but, kept-moved}
-use Rattle.heapwalk.proofs.MemoryLaws.{answer-before, pair-state-but}
-use Rattle.memory.specs.Layout.{nearFrom, orderFrom, stampsFrom}
+use Rattle.heapwalk.specs.Contracts.Trying.{pairState, PairHolds, PairAnswer}
+use Rattle.heapwalk.proofs.MemoryLaws.{answer-before, pair-state-but, within-only}
+use Rattle.memory.specs.Layout.{foldsFrom, nearFrom, stampsFrom}
 use Rattle.lists.proofs.CondLaws.{cond-same}
 
 -- ---- a pair that is off the queue
@@ -94,7 +93,7 @@ tried-by v f w p q n keep remove limit bound is done = rw is done
 -- what is done after cells of near and far have changed is done to the state as it was
 pub tried-before : {v f : ℕ} {w w₁ : List ℕ} {p q : List Float} {n live lo hi : ℕ} {limit : Limit} {bound : Float} {keep remove : ℕ} {place : Point}
     {w' : List ℕ} {p' q' : List Float} {r : Stepped} → PairHolds v f w p q n live bound keep remove place →
-    But lo hi w w₁ → nearFrom v f ≤ lo → hi ≤ orderFrom v f →
+    But lo hi w w₁ → nearFrom v f ≤ lo → hi ≤ foldsFrom v f →
     PairAnswer v f w₁ p q n keep remove limit bound (tried (rulesOf limit bound) (meshOf v f w₁ p q) (pairOf keep remove)) w' p' q' r →
     PairAnswer v f w p q n keep remove limit bound (tried (rulesOf limit bound) (meshOf v f w p q) (pairOf keep remove)) w' p' q' r
 tried-before {v} {f} {w} {w₁} {p} {q} {n} {limit = limit} {bound = bound} {keep = keep} {remove = remove} {w' = w'} {p' = p'} {q' = q'} {r = r} h but above up done =
@@ -104,36 +103,22 @@ tried-before {v} {f} {w} {w₁} {p} {q} {n} {limit = limit} {bound = bound} {kee
     subst (λ (a : StepAnswer). PairAnswer v f w p q n keep remove limit bound a w' p' q' r)
     (ap (λ (m : Mesh Vertex). tried rules m x) (mesh-but v f p q but (omega arith)))
     (record {
-      tied = answer-before (within-but p q but (omega arith)) (rw (pair-state-but held but above up x) same-refl) refl (done .tied);
+      tied = answer-before (within-but p q but (omega arith)) (rw (pair-state-but held but above x) same-refl) refl (done .tied);
       raised = λ y l. done .raised y l ∙ ap (λ (k : ℕ). k + cond (raises (tried rules (meshOf v f w₁ p q) x) y) 1 0) (but .under (stampsFrom v f + y) (omega arith));
       requeued =
-          subst (λ (es : List StoredEntry). Requeued (stampsOf v f w') es (newEntries limit bound (meshOf v f w' p' q') (stampsOf v f w') (tried rules (meshOf v f w₁ p q) x))
+          subst (λ (es : List Entry). Requeued (stampsOf v f w') es (newEntries limit bound (meshOf v f w' p' q') (stampsOf v f w') (tried rules (meshOf v f w₁ p q) x))
           (entriesIn v f w' p' q' (r .«open»)))
-          (entries-lists but above up held) (done .requeued);
+          (entries-past but above held) (done .requeued);
     })
-
--- the pair of the entry that was taken off, as it is read
-module _ (v f : ℕ) (w : List ℕ) (p q : List Float) (n s : ℕ) {bound : Float} {keep remove : ℕ}
-    (same-keep : keep ≡ pairAt v f w s .keep) (same-remove : remove ≡ pairAt v f w s .remove) where
-  pub top-pair : {live : ℕ} {place : Point} → place ≡ entryPlace v p s → TopHolds v f w p q n live bound s →
-      PairHolds v f w p q n live bound keep remove place
-  unfolding pairState
-  top-pair same-place h = rw (same-keep, same-remove, same-place) (record { held = h .held; same-place = h .place })
-
-  pub top-tried : {limit : Limit} {w' : List ℕ} {p' q' : List Float} {r : Stepped} →
-      PairAnswer v f w p q n keep remove limit bound (tried (rulesOf limit bound) (meshOf v f w p q) (pairOf keep remove)) w' p' q' r →
-      TopTried v f w p q n s limit bound w' p' q' r
-  unfolding pairState
-  top-tried done = rw (same-keep, same-remove) at done
 
 -- ---- the end
 
 module _ {v f : ℕ} {w : List ℕ} {p q : List Float} {n live : ℕ} {bound : Float} (h : HeapHolds v f w p q n live bound) (target : ℕ) (limit : Limit) where
   -- where the answer is the end, the state stays
-  ended-done : {w' : List ℕ} {n' : ℕ} → answer (rulesOf limit bound) target (heapState v f w p q n) ≡ ended → HeapHolds v f w' p q n' live bound →
-      StepWithin v f w p q w' p q → SameState (heapState v f w' p q n') (heapState v f w p q n) → ((y : ℕ) → y < v → stamp v f w' y ≡ stamp v f w y) →
-      QueueStep v f w p q n target limit bound w' p q n' ended →
-      HeapStepDone v f w p q n target limit bound w' p q (record { step = Ended; «open» = n'; live = live })
+  ended-done : {w' : List ℕ} {p' q' : List Float} {n' : ℕ} → answer (rulesOf limit bound) target (heapState v f w p q n) ≡ ended → HeapHolds v f w' p' q' n' live bound →
+      StepWithin v f w p q w' p' q' → SameState (heapState v f w' p' q' n') (heapState v f w p q n) → ((y : ℕ) → y < v → stamp v f w' y ≡ stamp v f w y) →
+      QueueStep v f w p q n target limit bound w' p' q' n' ended →
+      HeapStepDone v f w p q n target limit bound w' p' q' (record { step = Ended; «open» = n'; live = live })
   unfolding after
   ended-done e holds within same stamps on = record {
     tied = record { holds = holds; within = within; same-answer = sym e; same-state = rw e same };
@@ -149,32 +134,33 @@ module _ {v f : ℕ} {w : List ℕ} {p q : List Float} {n live : ℕ} {bound : F
       (inl (record { few = omega (arith, h .counted); same-w = refl; same-p = refl; same-q = refl; same-n = refl }))
 
   -- with no current entry
-  module _ {w' : List ℕ} (gone : NoneLeft v f w q n w') where
-    none-same : SameState (heapState v f w' p q 0) (heapState v f w p q n)
+  module _ {w' : List ℕ} {p' q' : List Float} (gone : NoneLeft v f w p q n w' p' q') where
+    none-was : openIn v f w n ≡ []
+    none-was = none-open (λ i l. h .«open» .kept i l .named) gone
+
+    none-same : SameState (heapState v f w' p' q' 0) (heapState v f w p q n)
     unfolding heapState openIn below those
-    none-same = record { same-mesh = mesh-but v f p q (gone .but) (omega arith); same-open = record { sums = λ g. ap (sum g) (sym (none-open gone)) } }
+    none-same = record {
+      same-mesh = mesh-stays v f (gone .only .but) (omega arith) (gone .only .points-but) (gone .only .quadrics-but);
+      same-open = record { sums = λ g. ap (sum g) (sym none-was) };
+    }
 
-    none-fewer : Fewer v f w n w' 0
-    unfolding below some
-    none-fewer s e = absurd (false≢true e)
-
-    none-holds : HeapHolds v f w' p q 0 live bound
+    none-holds : HeapHolds v f w' p' q' 0 live bound
     none-holds = record {
       «open» =
           record {
-            tidy = tidy-but (omega arith) (gone .but) (h .«open» .tidy);
-            places-long = h .«open» .places-long;
+            tidy = tidy-but (omega arith) (gone .only .but) (h .«open» .tidy);
             queue = gone .queue;
-            kept = kept-moved (moved-but p q (gone .but) (omega arith) (omega arith)) (h .«open» .queue) (h .«open» .kept) none-fewer;
+            kept = λ i l. absurd (omega arith);
           };
       sound = sound-bag none-same (h .sound);
-      counted = h .counted ∙ ap length (sym (live-faces-but f (gone .but) (omega arith)));
-      young = λ x l. rw (gone .but .under (stampsFrom v f + x) (omega arith)) (h .young x l);
+      counted = h .counted ∙ ap length (sym (live-faces-but f (gone .only .but) (omega arith)));
+      young = λ x l. rw (gone .only .but .under (stampsFrom v f + x) (omega arith)) (h .young x l);
     }
 
-    pub none-left : target < live → HeapStepDone v f w p q n target limit bound w' p q (record { step = Ended; «open» = 0; live = live })
+    pub none-left : target < live → HeapStepDone v f w p q n target limit bound w' p' q' (record { step = Ended; «open» = 0; live = live })
     unfolding answer chosen heapState meshOf
     none-left above =
-        ended-done (rw (none-open gone) (cond-same (leb (length (liveFaces f w)) target) ended)) none-holds (within-but p q (gone .but) (omega arith)) none-same
-        (λ y l. gone .but .under (stampsFrom v f + y) (omega arith))
-        (inr (record { above = omega (arith, h .counted); old = none-current p (h .«open» .queue) (h .«open» .kept .named) gone; none = refl }))
+        ended-done (rw none-was (cond-same (leb (length (liveFaces f w)) target) ended)) none-holds (within-only (gone .only)) none-same
+        (λ y l. gone .only .but .under (stampsFrom v f + y) (omega arith))
+        (inr (record { above = omega (arith, h .counted); old = gone .old; none = refl }))

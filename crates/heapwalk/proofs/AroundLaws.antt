@@ -27,13 +27,14 @@ use Rattle.openpairs.specs.Contracts.Waiting.{fits}
 use Rattle.openpairs.proofs.AddLaws.{around-sum, fits-mesh}
 use Rattle.lists.proofs.BagLaws.{bag-map}
 use Rattle.queue.specs.State.{openIn}
-use Rattle.queue.specs.Stored.{StoredEntry, stampsOf, entriesIn, Requeued}
-use Rattle.queue.proofs.StoredLaws.{stamps-same}
+use Rattle.memory.specs.declared.entries.Entry.{Entry}
+use Rattle.queue.specs.Stored.{stampsOf, entriesIn, Requeued}
+use Rattle.queue.proofs.PresentLaws.{stamps-same}
 use Rattle.queue.proofs.RequeuedLaws.{requeued-as}
 use Rattle.heapwalk.specs.Entries.{entryFor}
 use Rattle.heapwalk.specs.Contracts.Entering.{Open, entriesFor, Entered}
 use Rattle.heapwalk.specs.Contracts.Listing.{pairsWith, Enterable, EnteredBeside}
-use Rattle.heapwalk.proofs.QueueFrames.{fits-stays, open-lists, held-lists, entries-lists}
+use Rattle.heapwalk.proofs.QueueFrames.{fits-stays, open-past, held-past, entries-past}
 use Rattle.memory.specs.Layout.{aroundFrom, stampsFrom}
 use Rattle.lists.proofs.CondLaws.{cond-and}
 use Rattle.memory.proofs.MeshLaws.{mesh-length, mesh-but}
@@ -85,13 +86,13 @@ module _ {v f : ℕ} {w w₁ : List ℕ} {p q : List Float} {n : ℕ} {rising : 
   pub around-ready : (limit : Limit) → length (openIn v f w n) + length (openedAround (rulesOf limit bound) (meshOf v f w p q) rising x) ≤ 3 * f →
       Enterable v f w₁ p q n limit bound x (aroundIn v f w₁ count)
   around-ready limit enough = record {
-    «open» = held-lists (around .but) (omega arith) (omega arith) held;
+    «open» = held-past (around .but) (omega arith) held;
     point = x-in;
     points = around-points;
     enough = omega (
       arith,
       enough,
-      ap length (open-lists (around .but) (omega arith) (omega arith) held),
+      ap length (open-past (around .but) (omega arith) held),
       around-opened limit (λ r. 1),
       sum-length (pairsWith v f w₁ p q limit bound x (aroundIn v f w₁ count)),
       sum-length (openedAround (rulesOf limit bound) (meshOf v f w p q) rising x),
@@ -99,14 +100,14 @@ module _ {v f : ℕ} {w w₁ : List ℕ} {p q : List Float} {n : ℕ} {rising : 
   }
 
   -- entries put in once the points are listed are put in from where they were not
-  around-entries : (limit : Limit) {after : List StoredEntry} →
+  around-entries : (limit : Limit) {after : List Entry} →
       Requeued (stampsOf v f w₁) (entriesIn v f w₁ p q n) (entriesFor v f w₁ p q limit bound (pairsWith v f w₁ p q limit bound x (aroundIn v f w₁ count))) after →
       Requeued (stampsOf v f w) (entriesIn v f w p q n) (entriesFor v f w p q limit bound (openedAround (rulesOf limit bound) (meshOf v f w p q) rising x)) after
   around-entries limit {after} put =
       let same-stamps = stamps-same v f w w₁ (λ y l. around .but .under (stampsFrom v f + y) (omega arith)) in
       let same-mesh = mesh-but v f p q (around .but) (omega arith) in
       requeued-as (bag-map (record { sums = around-opened limit }) (entryFor limit bound (meshOf v f w p q) (stampsOf v f w)))
-      (rw (same-stamps, same-mesh, entries-lists (around .but) (omega arith) (omega arith) held) at put)
+      (rw (same-stamps, same-mesh, entries-past (around .but) (omega arith) held) at put)
 
   pub around-entered : (limit : Limit) {w' : List ℕ} {p' q' : List Float} {n' : ℕ} →
       EnteredBeside v f w₁ p q n limit bound (pairsWith v f w₁ p q limit bound x (aroundIn v f w₁ count)) w' p' q' n' →
@@ -121,7 +122,7 @@ module _ {v f : ℕ} {w w₁ : List ℕ} {p q : List Float} {n : ℕ} {rising : 
           queue = put .queue;
           sums = λ g.
               put .sums g
-              ∙ ap₂ _+_ (ap (λ (ps : List Pair). sum g ps) (open-lists (around .but) (omega arith) (omega arith) held)) (around-opened limit g);
+              ∙ ap₂ _+_ (ap (λ (ps : List Pair). sum g ps) (open-past (around .but) (omega arith) held)) (around-opened limit g);
         };
         requeued = around-entries limit (done .entered .requeued);
         «open» = done .entered .«open»;

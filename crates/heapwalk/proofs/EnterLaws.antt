@@ -20,7 +20,7 @@ use Rattle.lists.specs.Lists.{sum, those, every, below}
 use Rattle.walk.specs.Pairs.{pairOf}
 use Rattle.lists.proofs.EveryLaws.{every-head, every-cons, length-those, every-at, those-append}
 use Rattle.lists.proofs.SumLaws.{sum-append, sum-map, sum-length}
-use Rattle.lists.proofs.FrameLaws.{but-refl, but-then, floats-refl, floats-then}
+use Rattle.lists.proofs.FrameLaws.{but-refl, but-then, but-widen, floats-refl, floats-then}
 use Rattle.mesh.proofs.TidyLaws.{tidy-but}
 use Rattle.lists.proofs.BelowLaws.{length-each, getD-each, sum-partial}
 use Rattle.memory.specs.Memory.{aroundIn}
@@ -28,8 +28,9 @@ use Rattle.openpairs.specs.Contracts.Waiting.{fits}
 use Rattle.lists.proofs.BagLaws.{bag-map}
 use Rattle.memory.specs.Points.{vertexAt, meshOf}
 use Rattle.queue.specs.State.{openIn}
-use Rattle.queue.specs.Stored.{StoredEntry, stampsOf, entriesIn, Requeued}
-use Rattle.queue.proofs.StoredLaws.{stamps-over}
+use Rattle.memory.specs.declared.entries.Entry.{Entry}
+use Rattle.queue.specs.Stored.{stampsOf, entriesIn, Requeued}
+use Rattle.queue.proofs.PresentLaws.{stamps-over}
 use Rattle.queue.proofs.RequeuedLaws.{requeued-none, requeued-as, requeued-then}
 use Rattle.queue.specs.Contracts.Queued.{Kept}
 use Rattle.queue.specs.Contracts.Changes.{Pushed}
@@ -59,7 +60,7 @@ entered-none {v} {f} {w} {p} {q} {n} held = record {
 
 -- the entries of other pairs are those that they would have got before
 entered-entries : {v f : ℕ} {w w' : List ℕ} {p p' q q' : List Float} {n n' : ℕ} {limit : Limit} {bound : Float} {more : List Pair} →
-    Entered v f w p q n limit bound more w' p' q' n' → (after : List StoredEntry) (xs : List Pair) →
+    Entered v f w p q n limit bound more w' p' q' n' → (after : List Entry) (xs : List Pair) →
     Requeued (stampsOf v f w') (entriesIn v f w' p' q' n') (entriesFor v f w' p' q' limit bound xs) after →
     Requeued (stampsOf v f w) (entriesIn v f w' p' q' n') (entriesFor v f w p q limit bound xs) after
 entered-entries {v} {f} {w} {w'} {p} {p'} {q} {q'} {n' = n'} {limit = limit} {bound = bound} one after xs two =
@@ -85,7 +86,7 @@ entered-then {v} {f} {w} {w'' = w''} {p = p} {p'' = p''} {q = q} {q'' = q''} {n 
         sums = λ g. omega (arith, first .sums g, second .sums g, sum-append g more more');
       };
       requeued =
-          subst (λ (new : List StoredEntry). Requeued (stampsOf v f w) (entriesIn v f w p q n) new (entriesIn v f w'' p'' q'' n'')) (sym (map-append entry more more'))
+          subst (λ (new : List Entry). Requeued (stampsOf v f w) (entriesIn v f w p q n) new (entriesIn v f w'' p'' q'' n'')) (sym (map-append entry more more'))
           (requeued-then (one .requeued) (entered-entries one _ more' (two .requeued)) (entries-current limit bound (meshOf v f w p q) (stampsOf v f w) more));
       «open» = two .«open»;
     }
@@ -168,23 +169,29 @@ module _ {v f : ℕ} {w : List ℕ} {p q : List Float} {n : ℕ} {limit : Limit}
   pub entered-one : {cost : Float} {place : Point} {w' : List ℕ} {p' q' : List Float} {n' : ℕ} → fits v f w p q limit bound x y ≡ true →
       cost ≡ pairCost bound (vertexAt v f w p q x) (vertexAt v f w p q y) → place ≡ pairPlace bound (vertexAt v f w p q x) (vertexAt v f w p q y) →
       Pushed v f w p q n x y cost place w' p' q' n' → Kept v f w' p' q' n' bound → EnteredBeside v f w p q n limit bound (pairsWith v f w p q limit bound x (y ∷ [])) w' p' q' n'
+  unfolding sum
   entered-one {w' = w'} {p' = p'} {q' = q'} {n' = n'} e cost-is place-is pushed kept =
-      let done = pushed .enqueued in
+      let done = pushed .only in
       let held = ready .«open» in
       record {
         entered = rw (with-one v f w p q limit bound x y true e) (record {
-          enqueued = done;
+          enqueued = record {
+            but = but-widen (omega arith) (omega arith) (done .but);
+            points-but = done .points-but;
+            quadrics-but = done .quadrics-but;
+            queue = pushed .queue;
+            sums = λ g. omega (arith, pushed .sums g);
+          };
           requeued =
-              subst (λ (entry : StoredEntry). Requeued (stampsOf v f w) (entriesIn v f w p q n) (entry ∷ []) (entriesIn v f w' p' q' n'))
+              subst (λ (entry : Entry). Requeued (stampsOf v f w) (entriesIn v f w p q n) (entry ∷ []) (entriesIn v f w' p' q' n'))
               (entry-is v f w p q limit bound (ready .point) one-point cost-is place-is) (pushed .requeued);
           «open» = record {
             tidy = tidy-but (omega arith) (done .but) (held .tidy);
-            places-long = omega (arith, held .places-long, done .points-but .same-length);
-            queue = done .queue;
+            queue = pushed .queue;
             kept = kept;
           };
         });
-        lists-same = pushed .lists-same;
+        lists-same = λ i l m. done .but .over i l;
       }
 
   pub entered-not : fits v f w p q limit bound x y ≡ false → EnteredBeside v f w p q n limit bound (pairsWith v f w p q limit bound x (y ∷ [])) w p q n

@@ -20,8 +20,10 @@ use Rattle.meaning.specs.Arithmetic.{rulesOf}
 use Rattle.memory.specs.Points.{vertexAt, meshOf}
 use Rattle.memory.specs.Entries.{stamp}
 use Rattle.memory.proofs.MeshLaws.{mesh-point}
-use Rattle.queue.specs.Stored.{StoredEntry, stampsOf, isOld}
-use Rattle.queue.proofs.StoredLaws.{entry-path, stamp-of}
+use Rattle.memory.specs.declared.entries.Entry.{Entry}
+use Rattle.queue.specs.Stored.{stampsOf, isOld}
+use Rattle.memory.proofs.EntryLaws.{entry-path}
+use Rattle.queue.proofs.PresentLaws.{stamp-of}
 use Rattle.heapwalk.specs.Entries.{entryFor}
 
 module _ (limit : Limit) (bound : Float) (m : Mesh Vertex) (stamps : List ℕ) where
@@ -43,8 +45,8 @@ module _ (limit : Limit) (bound : Float) (m : Mesh Vertex) (stamps : List ℕ) w
 module _ (v f : ℕ) (w : List ℕ) (p q : List Float) (limit : Limit) (bound : Float) {keep remove : ℕ} (keep-in : keep < v) (remove-in : remove < v)
     {cost : Float} {place : Point} (cost-is : cost ≡ pairCost bound (vertexAt v f w p q keep) (vertexAt v f w p q remove))
     (place-is : place ≡ pairPlace bound (vertexAt v f w p q keep) (vertexAt v f w p q remove)) where
-  pub entry-is : _≡_ {A = StoredEntry}
-      (record { pair = pairOf keep remove; cost = cost; place = place; keep-stamp = stamp v f w keep; remove-stamp = stamp v f w remove })
+  pub entry-is : _≡_ {A = Entry}
+      (record { pair = pairOf keep remove; cost = cost; place = place; keepstamp = stamp v f w keep; removestamp = stamp v f w remove })
       (entryFor limit bound (meshOf v f w p q) (stampsOf v f w) (pairOf keep remove))
   unfolding entryFor
   entry-is =

@@ -33,10 +33,12 @@ use Rattle.meaning.specs.Arithmetic.{rulesOf}
 use Rattle.memory.proofs.MeshLaws.{mesh-point, mesh-but}
 use Rattle.openpairs.specs.Contracts.Edges.{openedAround}
 use Rattle.folding.specs.Contracts.Folds.{MeshFolded}
-use Rattle.memory.specs.Entries.{slotAt, stamp}
+use Rattle.meaning.specs.Input.{pointAt}
+use Rattle.memory.specs.Entries.{stamp}
+use Rattle.memory.proofs.EntryLaws.{entry-path}
 use Rattle.queue.specs.State.{openIn, heapState}
 use Rattle.queue.specs.Stored.{stampsOf, entriesIn, Requeued}
-use Rattle.queue.proofs.StoredLaws.{stamps-over, entries-moved}
+use Rattle.queue.proofs.PresentLaws.{stamps-over}
 use Rattle.heapwalk.specs.Entries.{newEntries}
 use Rattle.heapwalk.specs.Contracts.Entering.{Open, Entered}
 use Rattle.plainwalk.specs.declared.Step.the-variants.{Folded}
@@ -46,10 +48,10 @@ use Rattle.plainwalk.proofs.MemoryLaws.{within-then}
 use Rattle.lists.proofs.DropLaws.{rest-more, past-drop}
 use Rattle.walk.proofs.PairLaws.{touches, spared-apart, without-self}
 use Rattle.heapwalk.specs.Contracts.Trying.{pairState, PairHolds, PairAnswer}
-use Rattle.queue.proofs.MovedLaws.{Moved, queue-moved, fewer-moved, open-moved, kept-moved}
+use Rattle.queue.proofs.MovedLaws.{Moved, queue-moved, entries-moved, open-moved, kept-moved}
 use Rattle.heapwalk.proofs.MemoryLaws.{mesh-floats, pair-open, pair-points, pair-differ, pair-shared}
 use Rattle.heapwalk.proofs.StampLaws.{bumped, first-room, first-stamp, both-but, both-stamps}
-use Rattle.memory.specs.Layout.{costsTo, keepStampsFrom, keepsFrom, orderFrom, placesTo, removeStampsFrom, removesFrom, stampsFrom}
+use Rattle.memory.specs.Layout.{costsTo, entriesFrom, keepsFrom, placesTo, stampsFrom}
 use Rattle.folding.proofs.TriedLaws.{folded-live}
 
 module _ {v f : ℕ} {w : List ℕ} {p q : List Float} {n live : ℕ} {limit : Limit} {bound : Float} {keep remove : ℕ} {place : Point}
@@ -113,34 +115,30 @@ module _ {v f : ℕ} {w : List ℕ} {p q : List Float} {n live : ℕ} {limit : L
 
     fold-moved : Moved v f w p q w₃ p' q' (touches keep remove)
     fold-moved = record {
-      keeps = λ s l. whole-but .over (keepsFrom v f + s) (omega arith);
-      removes = λ s l. whole-but .over (removesFrom v f + s) (omega arith);
-      keep-stamps = λ s l. whole-but .over (keepStampsFrom v f + s) (omega arith);
-      remove-stamps = λ s l. whole-but .over (removeStampsFrom v f + s) (omega arith);
-      costs = λ s l. past-drop nan q' q (10 * v) (fold .rest-q) (10 * v + s) (omega arith);
-      places = λ s l.
+      entries = λ i l.
           let past = past-drop nan p' p (3 * v) (fold .rest-p) in
-          rw (past (3 * (v + s)) (omega arith), past (3 * (v + s) + 1) (omega arith), past (3 * (v + s) + 2) (omega arith));
+          let word : (k : ℕ) → k < 4 → getD w₃ (entriesFrom v f + 4 * i + k) 0 ≡ getD w (entriesFrom v f + 4 * i + k) 0 =
+          λ k h. whole-but .over (entriesFrom v f + 4 * i + k) (omega arith) in
+          let same-place : pointAt p' (v + i) ≡ pointAt p (v + i) =
+          rw (past (3 * (v + i)) (omega arith), past (3 * (v + i) + 1) (omega arith), past (3 * (v + i) + 2) (omega arith)) in
+          entry-path (ap₂ pairOf (whole-but .over (entriesFrom v f + 4 * i) (omega arith)) (word 1 (omega arith)))
+          (past-drop nan q' q (10 * v) (fold .rest-q) (10 * v + i) (omega arith)) same-place (word 2 (omega arith)) (word 3 (omega arith));
       stamps = stamps-are;
       carries = carries-same;
     }
 
-    order-same : (i : ℕ) → i < 3 * f → slotAt v f w₃ i ≡ slotAt v f w i
-    order-same i l = whole-but .over (orderFrom v f + i) (omega arith)
-
     -- the pairs that stay open
     spared-open : openIn v f w₃ n ≡ those (apart (pairOf keep remove)) (openIn v f w n)
     spared-open =
-        open-moved fold-moved (h .held .«open» .queue) (h .held .«open» .kept) order-same ∙ spared-apart keep remove (openIn v f w n)
+        open-moved fold-moved (h .held .«open» .queue) (h .held .«open» .kept) ∙ spared-apart keep remove (openIn v f w n)
 
     pub stamped-open : Open v f w₃ p' q' n bound
     stamped-open =
         let queue = h .held .«open» .queue in
         record {
           tidy = tidy-but (omega arith) stamps-but (fold .tidy);
-          places-long = rw (fold .same-length-p) (h .held .«open» .places-long);
-          queue = queue-moved fold-moved queue order-same (whole-but .same-length) (fold .same-length-q);
-          kept = kept-moved fold-moved queue (h .held .«open» .kept) (fewer-moved fold-moved queue order-same);
+          queue = queue-moved fold-moved queue (whole-but .same-length) (fold .same-length-p) (fold .same-length-q);
+          kept = kept-moved fold-moved queue (h .held .«open» .kept);
         }
 
     -- there is room for the pairs that the fold opens
@@ -221,7 +219,7 @@ module _ {v f : ℕ} {w : List ℕ} {p q : List Float} {n live : ℕ} {limit : L
           let into = enter .enqueued in
           let same-stamps = stamps-over v f (into .but) (omega arith) in
           let same-mesh = mesh-but v f p₄ q₄ (into .but) (omega arith) ∙ mesh-floats v f w₃ (into .points-but) (into .quadrics-but) in
-          let same-entries = entries-moved fold-moved (h .held .«open» .queue) (stamped-open .queue) order-same in
+          let same-entries = entries-moved fold-moved (h .held .«open» .queue) in
           rw (same-stamps, same-mesh, ← same-entries) (enter .requeued)
 
       pub folded-done : PairAnswer v f w p q n keep remove limit bound (folded (pairOf keep remove)) w₄ p₄ q₄

@@ -1,6 +1,6 @@
 -- The heap walk as a walk: its state is read off the current entries of the queue, and is held where only the cells of the folds change.
 -- Assumes nothing.
-use Prim.Native.Nat.{ℕ, _+_, _≤_}
+use Prim.Native.Nat.{ℕ, _+_, _^_, _≤_, _<_}
 use native.Mathlib.Omega.{arith}
 use mathlib.Core.Path.{_≡_, refl, sym, ap, _∙_}
 use mathlib.Core.List.{List}
@@ -18,7 +18,7 @@ use Rattle.meaning.specs.Arithmetic.{rulesOf}
 use Rattle.memory.proofs.MeshLaws.{mesh-but}
 use Rattle.queue.specs.State.{heapState}
 use Rattle.heapwalk.specs.Contracts.Entering.{Open, Started}
-use Rattle.heapwalk.proofs.QueueFrames.{mesh-stays, open-noted, held-noted}
+use Rattle.heapwalk.proofs.QueueFrames.{mesh-stays, open-past, held-past}
 use Rattle.plainwalk.specs.declared.Stepped.{Stepped}
 use Rattle.plainwalk.specs.declared.Walked.{Walked}
 use Rattle.plainwalk.specs.Steps.{Within}
@@ -34,13 +34,13 @@ module _ {v f lo hi : ℕ} {w w' : List ℕ} {p q : List Float} {n : ℕ} {bound
     (but : But lo hi w w') (low : foldsFrom v f ≤ lo) (held : Open v f w p q n bound) where
   pub state-noted : heapState v f w' p q n ≡ heapState v f w p q n
   unfolding heapState
-  state-noted = rw (mesh-but v f p q but (omega arith), open-noted but low held)
+  state-noted = rw (mesh-but v f p q but (omega arith), open-past but (omega arith) held)
 
 -- a state of the walk is held after a fold is written down
 pub holds-noted : {v f lo hi : ℕ} {w w' : List ℕ} {p q : List Float} {n live : ℕ} {bound : Float} →
     But lo hi w w' → foldsFrom v f ≤ lo → HeapHolds v f w p q n live bound → HeapHolds v f w' p q n live bound
 holds-noted {v} {f} {w = w} {w'} {p} {q} {n} but low h = record {
-  «open» = held-noted but low (h .«open»);
+  «open» = held-past but (omega arith) (h .«open»);
   sound = rw (state-noted but low (h .«open»)) (h .sound);
   counted = h .counted ∙ ap length (sym (live-faces-but f but (omega arith)));
   young = λ x l. rw (but .under (stampsFrom v f + x) (omega arith)) (h .young x l);
@@ -106,3 +106,8 @@ module _ {v f : ℕ} {w w₁ : List ℕ} {p q p₁ q₁ : List Float} {n : ℕ} 
   pub walk-done : {target : ℕ} {w' : List ℕ} {p' q' : List Float} {r : Walked} →
       WalkedFrom v f (heapState v f w₁ p₁ q₁ n) w₁ p₁ q₁ target limit bound w' p' q' r → WalkDone v f w p q target limit bound w' p' q' r
   walk-done = walked-whole (byHeap v f bound) (moment w₁ p₁ q₁ n f) start-holds start-state start-within
+
+-- ---- how many entries there are
+
+pub few-entries : {v f : ℕ} {w : List ℕ} {p q : List Float} {n live : ℕ} {bound : Float} → HeapHolds v f w p q n live bound → n < 2 ^ 32
+few-entries h = omega (arith, h .«open» .queue .few, h .«open» .queue .enough .room .faces-few)

@@ -22,6 +22,8 @@ use Rattle.walk.proofs.BagWalk.{after-bag}
 use Rattle.memory.specs.Memory.{liveFaces}
 use Rattle.lists.specs.Frames.{But, FloatsBut}
 use Rattle.mesh.proofs.AroundLaws.{live-faces-but}
+use Rattle.lists.proofs.FrameLaws.{but-widen}
+use Rattle.memory.specs.Entries.{EntriesOnly}
 use Rattle.memory.specs.Points.{vertexAt, meshOf}
 use Rattle.meaning.specs.Arithmetic.{rulesOf}
 use Rattle.lists.proofs.BelowLaws.{each-same}
@@ -34,8 +36,8 @@ use Rattle.plainwalk.specs.Steps.{StepWithin}
 use Rattle.plainwalk.proofs.MemoryLaws.{within-then}
 use Rattle.heapwalk.specs.Steps.{HeapAnswer}
 use Rattle.heapwalk.specs.Contracts.Trying.{pairState, PairHolds}
-use Rattle.heapwalk.proofs.QueueFrames.{open-lists, held-lists}
-use Rattle.memory.specs.Layout.{nearFrom, orderFrom, stampsFrom}
+use Rattle.heapwalk.proofs.QueueFrames.{open-past, held-past}
+use Rattle.memory.specs.Layout.{nearFrom, stampsFrom}
 
 -- ---- floats
 
@@ -63,6 +65,16 @@ mesh-floats v f w {p} {q} {p'} {q'} points quadrics =
     )))
     refl refl
 
+-- no cell but those of entries changes, so it is within what a step may change
+pub within-only : {v f : ℕ} {w w' : List ℕ} {p q p' q' : List Float} → EntriesOnly v f w p q w' p' q' → StepWithin v f w p q w' p' q'
+within-only only = record {
+  but = but-widen (omega arith) (omega arith) (only .but);
+  same-length-p = only .points-but .same-length;
+  same-length-q = only .quadrics-but .same-length;
+  rest-p = only .points-but .rest;
+  rest-q = only .quadrics-but .rest;
+}
+
 -- ---- an answer that is given after a change that leaves the state
 
 pub answer-before : {v f : ℕ} {s t : State Vertex} {w w₁ : List ℕ} {p q p₁ q₁ : List Float} {limit : Limit} {bound : Float} {a b : StepAnswer}
@@ -81,16 +93,16 @@ answer-before {v} {f} {s} {t} {limit = limit} {bound = bound} {a = a} {b = b} wi
 
 -- the state: on the cells below those of near and far, and on the entries
 module _ {v f : ℕ} {w : List ℕ} {p q : List Float} {n lo hi : ℕ} {bound : Float} {w' : List ℕ}
-    (before : Open v f w p q n bound) (but : But lo hi w w') (above : nearFrom v f ≤ lo) (up : hi ≤ orderFrom v f) where
+    (before : Open v f w p q n bound) (but : But lo hi w w') (above : nearFrom v f ≤ lo) where
   pub open-pairs-but : openIn v f w' n ≡ openIn v f w n
-  open-pairs-but = open-lists but above up before
+  open-pairs-but = open-past but above before
 
   pub pair-state-but : (x : Pair) → pairState v f w' p q n x ≡ pairState v f w p q n x
   unfolding pairState
   pair-state-but x = rw (mesh-but v f p q but (omega arith), open-pairs-but)
 
   pub open-but : Open v f w' p q n bound
-  open-but = held-lists but above up before
+  open-but = held-past but above before
 
 module _ {v f : ℕ} {w : List ℕ} {p q : List Float} {n live : ℕ} {bound : Float} {keep remove : ℕ} {place : Point}
     (h : PairHolds v f w p q n live bound keep remove place) where
@@ -112,13 +124,13 @@ module _ {v f : ℕ} {w : List ℕ} {p q : List Float} {n live : ℕ} {bound : F
   pair-shared = open-shared (pairState v f w p q n (pairOf keep remove)) (h .held .sound) (pairOf keep remove) pair-open
 
   -- cells of near and far may change
-  pub pair-but : {lo hi : ℕ} {w' : List ℕ} → But lo hi w w' → nearFrom v f ≤ lo → hi ≤ orderFrom v f →
+  pub pair-but : {lo hi : ℕ} {w' : List ℕ} → But lo hi w w' → nearFrom v f ≤ lo →
       PairHolds v f w' p q n live bound keep remove place
-  pair-but {lo} {hi} {w'} but above up = record {
+  pair-but {lo} {hi} {w'} but above = record {
     held =
         record {
-          «open» = open-but (h .held .«open») but above up;
-          sound = rw (pair-state-but (h .held .«open») but above up (pairOf keep remove)) (h .held .sound);
+          «open» = open-but (h .held .«open») but above;
+          sound = rw (pair-state-but (h .held .«open») but above (pairOf keep remove)) (h .held .sound);
           counted = h .held .counted ∙ ap length (sym (live-faces-but f but (omega arith)));
           young = λ x l. rw (but .under (stampsFrom v f + x) (omega arith)) (h .held .young x l);
         };

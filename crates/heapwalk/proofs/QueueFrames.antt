@@ -14,13 +14,11 @@ use Rattle.mesh.proofs.TidyLaws.{tidy-but}
 use Rattle.memory.specs.Points.{vertexAt, meshOf}
 use Rattle.memory.proofs.PointLaws.{point-same, quadric-same}
 use Rattle.memory.proofs.MeshLaws.{mesh-of-parts, live-numbers-but}
-use Rattle.memory.specs.Entries.{slotAt}
-use Rattle.memory.specs.Layout.{foldsFrom, kindsFrom, marksFrom, nearFrom, orderFrom}
+use Rattle.memory.specs.Layout.{kindsFrom, marksFrom, nearFrom}
 use Rattle.openpairs.specs.Contracts.Waiting.{fits}
 use Rattle.queue.specs.State.{openIn}
 use Rattle.queue.specs.Stored.{entriesIn}
-use Rattle.queue.proofs.StoredLaws.{entries-moved}
-use Rattle.queue.proofs.MovedLaws.{Moved, untouched, moved-but, moved-folds, queue-moved, kept-same, open-same}
+use Rattle.queue.proofs.MovedLaws.{moved-but, queue-moved, entries-moved, kept-moved, open-same}
 use Rattle.heapwalk.specs.Contracts.Entering.{Open}
 
 -- ---- the mesh: on the cells below the marks, and on the places and quadrics of its points
@@ -44,41 +42,19 @@ module _ (v f : ℕ) {lo hi hi-p hi-q : ℕ} {w w' : List ℕ} {p p' q q' : List
   unfolding meshOf
   mesh-stays = mesh-of-parts _ _ _ _ _ _ (map-same-below _ _ v vertex-stays) (live-faces-but f but (omega arith)) (live-numbers-but f but (omega arith))
 
--- ---- what the walk holds: no cell below the lists around a point changes, and none that the queue hangs on
+-- ---- what the walk holds: cells past the entries change, those of the lists around a point or those of the folds
 
-module _ {v f lo hi : ℕ} {w w' : List ℕ} {p q : List Float} {n : ℕ} {bound : Float} (but : But lo hi w w') (low : nearFrom v f ≤ lo)
-    (moved : Moved v f w p q w' p q untouched) (order : (i : ℕ) → i < 3 * f → slotAt v f w' i ≡ slotAt v f w i) (held : Open v f w p q n bound) where
-  held-moved : Open v f w' p q n bound
-  held-moved = record {
+module _ {v f lo hi : ℕ} {w w' : List ℕ} {p q : List Float} {n : ℕ} {bound : Float}
+    (but : But lo hi w w') (low : nearFrom v f ≤ lo) (held : Open v f w p q n bound) where
+  pub open-past : openIn v f w' n ≡ openIn v f w n
+  open-past = open-same (moved-but p q but low) (held .queue) (held .kept)
+
+  pub held-past : Open v f w' p q n bound
+  held-past = record {
     tidy = tidy-but (omega arith) but (held .tidy);
-    places-long = held .places-long;
-    queue = queue-moved moved (held .queue) order (but .same-length) refl;
-    kept = kept-same moved (held .queue) (held .kept) order;
+    queue = queue-moved (moved-but p q but low) (held .queue) (but .same-length) refl refl;
+    kept = kept-moved (moved-but p q but low) (held .queue) (held .kept);
   }
 
--- the lists around a point change, and nothing else
-module _ {v f lo hi : ℕ} {w w' : List ℕ} {p q : List Float} {n : ℕ} {bound : Float}
-    (but : But lo hi w w') (low : nearFrom v f ≤ lo) (high : hi ≤ orderFrom v f) (held : Open v f w p q n bound) where
-  order-lists : (i : ℕ) → i < 3 * f → slotAt v f w' i ≡ slotAt v f w i
-  order-lists i l = but .over (orderFrom v f + i) (omega arith)
-
-  pub open-lists : openIn v f w' n ≡ openIn v f w n
-  open-lists = open-same (moved-but p q but low (omega arith)) (held .queue) (held .kept) order-lists
-
-  pub held-lists : Open v f w' p q n bound
-  held-lists = held-moved but low (moved-but p q but low (omega arith)) order-lists held
-
-  pub entries-lists : entriesIn v f w' p q n ≡ entriesIn v f w p q n
-  entries-lists = entries-moved (moved-but p q but low (omega arith)) (held .queue) (held-lists .queue) order-lists
-
--- folds are written down, and nothing else changes
-module _ {v f lo hi : ℕ} {w w' : List ℕ} {p q : List Float} {n : ℕ} {bound : Float}
-    (but : But lo hi w w') (low : foldsFrom v f ≤ lo) (held : Open v f w p q n bound) where
-  order-noted : (i : ℕ) → i < 3 * f → slotAt v f w' i ≡ slotAt v f w i
-  order-noted i l = but .under (orderFrom v f + i) (omega arith)
-
-  pub open-noted : openIn v f w' n ≡ openIn v f w n
-  open-noted = open-same (moved-folds p q but low) (held .queue) (held .kept) order-noted
-
-  pub held-noted : Open v f w' p q n bound
-  held-noted = held-moved but (omega arith) (moved-folds p q but low) order-noted held
+  pub entries-past : entriesIn v f w' p q n ≡ entriesIn v f w p q n
+  entries-past = entries-moved (moved-but p q but low) (held .queue)

@@ -6,13 +6,12 @@ use native.Mathlib.Numerals.{add-one}
 use native.Mathlib.Omega.{arith}
 use mathlib.Core.Path.{_≡_, refl, sym, ap, ap₂, _∙_}
 use mathlib.Core.List.{List, [], flatMap}
-use mathlib.Core.Bool.{false≢true}
 use lib.Ieee.{Float}
 use lib.ListN.{length}
 use Rattle.placement.specs.declared.Limit.{Limit}
 use Rattle.placement.specs.declared.pair.Vertex.{Vertex}
 use Rattle.walk.specs.declared.Pair.{Pair}
-use Rattle.lists.specs.Lists.{sum, some, those, below}
+use Rattle.lists.specs.Lists.{sum, those, below}
 use Rattle.walk.specs.Faces.{Mesh}
 use Rattle.walk.specs.Walk.{started}
 use Rattle.lists.proofs.SumLaws.{sum-append, sum-flatMap, sum-length}
@@ -29,14 +28,14 @@ use Rattle.lists.specs.Lists.{SameBag}
 use Rattle.lists.proofs.BagLaws.{bag-trans, bag-map}
 use Rattle.queue.specs.State.{openIn}
 use Rattle.queue.specs.Stored.{stampsOf, entriesIn}
-use Rattle.queue.proofs.StoredLaws.{stamps-over}
+use Rattle.queue.proofs.PresentLaws.{stamps-over}
 use Rattle.queue.proofs.RequeuedLaws.{requeued-all}
 use Rattle.heapwalk.specs.Entries.{entryFor}
 use Rattle.queue.specs.Contracts.Changes.{Emptied}
 use Rattle.heapwalk.specs.Contracts.Entering.{Open, entriesFor, Entered, Started}
 use Rattle.heapwalk.proofs.QueueFrames.{mesh-stays}
 use Rattle.heapwalk.proofs.EnterLaws.{entered-none, entered-then, entered-as, entered-length}
-use Rattle.memory.specs.Layout.{placesTo, stampsFrom}
+use Rattle.memory.specs.Layout.{stampsFrom}
 
 -- no entry, no open pair
 pub open-none : (v f : ℕ) (w : List ℕ) → openIn v f w 0 ≡ []
@@ -52,21 +51,14 @@ entries-none v f w p q = refl
 abbrev pub risingBelow : (v f : ℕ) (w : List ℕ) (p q : List Float) (limit : Limit) (bound : Float) → ℕ → List Pair
 risingBelow v f w p q limit bound x = flatMap (risingFrom (rulesOf limit bound) (meshOf v f w p q)) (below x)
 
-module _ {v f : ℕ} {w w₀ : List ℕ} {p q : List Float} (tidy : Tidy v f w) (emptied : Emptied v f w q w₀) (places-long : placesTo v f ≤ length p)
+module _ {v f : ℕ} {w w₀ : List ℕ} {p q : List Float} (tidy : Tidy v f w) (emptied : Emptied v f w p q w₀)
     (limit : Limit) (bound : Float) where
   -- an empty queue knows all that it should
   emptied-open : Open v f w₀ p q 0 bound
-  unfolding some below
   emptied-open = record {
     tidy = tidy-but (omega arith) (emptied .but) tidy;
-    places-long = places-long;
     queue = emptied .queue;
-    kept = record {
-      named = λ s e. absurd (false≢true e);
-      older = λ s e. absurd (false≢true e);
-      cost = λ s e c. absurd (false≢true e);
-      place = λ s e c. absurd (false≢true e);
-    };
+    kept = λ i l. absurd (omega arith);
   }
 
   pub starting-none : Entered v f w₀ p q 0 limit bound (risingBelow v f w₀ p q limit bound 0) w₀ p q 0

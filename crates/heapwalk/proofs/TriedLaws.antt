@@ -35,7 +35,7 @@ module _ {v f : ℕ} {w : List ℕ} {p q : List Float} {n live : ℕ} {limit : L
   module _ {gone : ℕ} (made : FoldTried v f limit bound w p q keep remove w₁ p' q' (Made gone)) where
     -- listing the faces around its points leaves the state and the pair
     listed-holds : PairHolds v f (made .listed) p q n live bound keep remove place
-    listed-holds = pair-but h (made .but) (omega arith) (omega arith)
+    listed-holds = pair-but h (made .but) (omega arith)
 
     -- so many faces are left, and each stamp may rise
     pub made-live : length (liveFaces f w₁) + gone ≡ live
@@ -71,4 +71,4 @@ module _ {v f : ℕ} {w : List ℕ} {p q : List Float} {n live : ℕ} {limit : L
   refused-done {reason} refused =
       rw (refused .came .1, refused .came .2, refused .came .3)
       (tried-before h (refused .but) (omega arith) (omega arith)
-      (tried-by _ _ _ _ _ _ _ _ _ _ (refused .came .0) (closed-done (pair-but h (refused .but) (omega arith) (omega arith)) limit reason)))
+      (tried-by _ _ _ _ _ _ _ _ _ _ (refused .came .0) (closed-done (pair-but h (refused .but) (omega arith)) limit reason)))

@@ -13,11 +13,11 @@ use Rattle.walk.specs.Faces.{Mesh, dataOf}
 use Rattle.walk.specs.Pairs.{opened}
 use Rattle.walk.specs.Walk.{StepAnswer, folded, closed, ended}
 use Rattle.meaning.specs.Arithmetic.{rulesOf}
-use Rattle.queue.specs.Stored.{StoredEntry}
+use Rattle.memory.specs.declared.entries.Entry.{Entry}
 
 module _ (limit : Limit) (bound : Float) (m : Mesh Vertex) (stamps : List ℕ) where
   -- the entry that a pair gets in a mesh: its cost and its place there, and the stamps of its points
-  unfoldable pub entryFor : Pair → StoredEntry
+  unfoldable pub entryFor : Pair → Entry
   entryFor x =
       let keep = dataOf (rulesOf limit bound) m (x .keep) in
       let remove = dataOf (rulesOf limit bound) m (x .remove) in
@@ -25,12 +25,12 @@ module _ (limit : Limit) (bound : Float) (m : Mesh Vertex) (stamps : List ℕ) w
         pair = x;
         cost = pairCost bound keep remove;
         place = pairPlace bound keep remove;
-        keep-stamp = getD stamps (x .keep) 0;
-        remove-stamp = getD stamps (x .remove) 0;
+        keepstamp = getD stamps (x .keep) 0;
+        removestamp = getD stamps (x .remove) 0;
       }
 
   -- those that an answer puts in: a fold opens keep with each present neighbour
-  abbrev pub newEntries : StepAnswer → List StoredEntry
+  abbrev pub newEntries : StepAnswer → List Entry
   newEntries (folded x) = map entryFor (opened (rulesOf limit bound) m (x .keep))
   newEntries (closed x reason) = []
   newEntries ended = []

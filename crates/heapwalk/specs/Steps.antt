@@ -17,7 +17,8 @@ use Rattle.memory.specs.Points.{meshOf}
 use Rattle.meaning.specs.Arithmetic.{rulesOf}
 use Rattle.memory.specs.Entries.{stamp}
 use Rattle.queue.specs.State.{heapState}
-use Rattle.queue.specs.Stored.{StoredEntry, stampsOf, entriesIn, isOld, LeastCurrent, Requeued}
+use Rattle.memory.specs.declared.entries.Entry.{Entry}
+use Rattle.queue.specs.Stored.{stampsOf, entriesIn, isOld, LeastCurrent, Requeued}
 use Rattle.heapwalk.specs.Entries.{newEntries, raises}
 use Rattle.heapwalk.specs.Contracts.Entering.{Open}
 use Rattle.plainwalk.specs.declared.Stepped.{Stepped}
@@ -49,17 +50,17 @@ pub record HeapAnswer (v f : ℕ) (s : State Vertex) (w : List ℕ) (p q : List 
 
 -- ---- what a step does to the queue
 
--- The pair x is answered, above the target: it is that of the least current entry by stored cost, keep, remove, which is taken off. Entries over it are
--- passed over, all of them old. Of those left, old ones may be thrown out, and the others stay as they are stored.
+-- The pair x is answered, above the target: it is that of the least current entry by stored cost, keep, remove, which is taken off. Others go with it, all
+-- of them old: those over it, and where old ones are thrown out any. Of those left, old ones may be thrown out, and the others stay as they are stored.
 pub record PairTaken (v f : ℕ) (w : List ℕ) (p q : List Float) (n target : ℕ) (limit : Limit) (bound : Float) (x : Pair) (a : StepAnswer)
     (w' : List ℕ) (p' q' : List Float) (n' : ℕ) : Type 0 where
   pub above : target < length (liveFaces f w)
-  pub top : StoredEntry
+  pub top : Entry
   pub same-pair : top .pair ≡ x
   pub least : LeastCurrent (stampsOf v f w) (entriesIn v f w p q n) top
-  pub passed : List StoredEntry
+  pub passed : List Entry
   pub passed-old : every (isOld (stampsOf v f w)) passed ≡ true
-  pub left : List StoredEntry
+  pub left : List Entry
   pub taken : SameBag (entriesIn v f w p q n) ((top ∷ passed) ++ left)
   pub requeued : Requeued (stampsOf v f w') left (newEntries limit bound (meshOf v f w' p' q') (stampsOf v f w') a) (entriesIn v f w' p' q' n')
 

@@ -106,7 +106,7 @@ pub fn enter_start(
     requires { ⌜ Tidy v f (now w) ⌝ ∗ ⌜ placesTo v f ≤ length (now p) ⌝ ∗ ⌜ costsTo v f ≤ length (now q) ⌝ }
     ensures { λ r. ⌜ Started v f (now (w .entry)) (now (p .entry)) (now (q .entry)) (bounds .limit) (bounds .size) (started (rulesOf (bounds .limit) (bounds .size)) (meshOf v f (now (w .entry)) (now (p .entry)) (now (q .entry))) .«open») (now (w .exit)) (now (p .exit)) (now (q .exit)) r ⌝ }
 {
-    queue::empty(w, q, v, f);
+    queue::empty(w, p, q, v, f);
     let mut n = 0;
     let mut x = 0;
     while x < v {

@@ -1,6 +1,7 @@
 // The heap walk: the same folds as the plain walk, in the same order, with the open pairs in a queue.
 ghost use mathlib.Core.Path.{_≡_};
-ghost use Prim.Native.Nat.{_+_, _≤_};
+ghost use Prim.Native.Nat.{_+_, _/_, _^_, _≤_, _<_};
+ghost use mathlib.Core.Bool.{cond};
 ghost use lib.ListN.{length};
 ghost use Rattle.walk.specs.Pairs.{pairOf};
 ghost use Rattle.walk.specs.Walk.{tried};
@@ -10,7 +11,7 @@ ghost use Rattle.memory.specs.Points.{meshOf};
 ghost use Rattle.meaning.specs.Arithmetic.{rulesOf};
 ghost use Rattle.plainwalk.specs.Moments.{moment};
 ghost use Rattle.heapwalk.specs.Steps.{HeapHolds, HeapStepDone};
-ghost use Rattle.heapwalk.specs.Contracts.Trying.{PairHolds, PairAnswer, TopHolds, TopTried};
+ghost use Rattle.heapwalk.specs.Contracts.Trying.{PairHolds, PairAnswer};
 ghost use Rattle.heapwalk.specs.Chain.{ChainFrom, HeapWalked};
 ghost use Rattle.memory.specs.Layout.{costsTo, placesTo};
 
@@ -63,34 +64,8 @@ fn try_pair(
     }
 }
 
-// Tries the pair of the entry that was taken off, in slot s: it is folded where that is allowed, and else closed.
-fn try_top(
-    w: &mut [u32],
-    p: &mut [f32],
-    q: &mut [f64],
-    v: usize,
-    f: usize,
-    entries: usize,
-    live: usize,
-    s: usize,
-    bounds: Bounds,
-) -> Stepped
-    requires { ⌜ TopHolds v f (now w) (now p) (now q) entries live (bounds .size) s ⌝ }
-    ensures { λ r. ⌜ TopTried v f (now (w .entry)) (now (p .entry)) (now (q .entry)) entries s (bounds .limit) (bounds .size) (now (w .exit)) (now (p .exit)) (now (q .exit)) r ⌝ }
-{
-    let keep = memory::keep_at(w, v, f, s);
-    let remove = memory::remove_at(w, v, f, s);
-    let place = memory::point_at(p, v + s);
-    let fold = Fold {
-        keep,
-        remove,
-        place,
-    };
-    try_pair(w, p, q, v, f, entries, live, fold, bounds)
-}
-
 // One step: entries are taken off the top up to the first current one, whose pair is folded or closed. At the target, or with no current entry, the
-// walk has ended.
+// walk has ended. Where that is asked for, old entries are thrown out first.
 pub fn heap_step(
     w: &mut [u32],
     p: &mut [f32],
@@ -101,6 +76,7 @@ pub fn heap_step(
     live: usize,
     target: usize,
     bounds: Bounds,
+    thin: bool,
 ) -> Stepped
     requires { ⌜ HeapHolds v f (now w) (now p) (now q) entries live (bounds .size) ⌝ }
     ensures { λ r. ⌜ HeapStepDone v f (now (w .entry)) (now (p .entry)) (now (q .entry)) entries target (bounds .limit) (bounds .size) (now (w .exit)) (now (p .exit)) (now (q .exit)) r ⌝ }
@@ -112,14 +88,43 @@ pub fn heap_step(
             live,
         };
     }
-    match queue::take_current(w, q, v, f, entries) {
-        Taken::Entry(s, left) => try_top(w, p, q, v, f, left, live, s, bounds),
+    match queue::take_first(w, p, q, v, f, entries, thin) {
+        Taken::Found(top, left) => {
+            let pair = top.pair;
+            let place = top.place;
+            let fold = Fold {
+                keep: pair.keep,
+                remove: pair.remove,
+                place,
+            };
+            try_pair(w, p, q, v, f, left, live, fold, bounds)
+        }
         Taken::Empty => Stepped {
             step: Step::Ended,
             open: 0,
             live,
         },
     }
+}
+
+// How many entries there may be before old ones are thrown out again, where so many were left: a third more, so that what a throw-out costs is paid for by the
+// entries that were put in since.
+fn room_after(entries: usize) -> usize
+    requires { ⌜ entries < 2 ^ 32 ⌝ }
+    ensures { λ r. ⌜ r ≡ entries + entries / 3 ⌝ }
+{
+    entries + entries / 3
+}
+
+// The same after a step: where old entries were thrown out it is worked out anew.
+fn room_next(thin: bool, room: usize, entries: usize) -> usize
+    requires { ⌜ entries < 2 ^ 32 ⌝ }
+    ensures { λ r. ⌜ r ≡ cond thin (entries + entries / 3) room ⌝ }
+{
+    if thin {
+        return room_after(entries);
+    }
+    room
 }
 
 // Takes steps from any state, to the end.
@@ -141,9 +146,12 @@ fn walk_on(
     let mut faces_live = live;
     let mut folds = 0;
     let mut closed = walk::none_closed();
+    let mut room = room_after(entries);
     loop {
-        let stepped = heap_step(w, p, q, v, f, queued, faces_live, target, bounds);
+        let thin = room < queued;
+        let stepped = heap_step(w, p, q, v, f, queued, faces_live, target, bounds, thin);
         queued = stepped.open;
+        room = room_next(thin, room, queued);
         faces_live = stepped.live;
         let step = stepped.step;
         match step {

@@ -8,15 +8,13 @@
 --   u32     kinds         7F + V      V       what the point is, by number
 --   u32     marks         7F + 2V     V       0 between uses
 --   u32     stamps        7F + 3V     V       how many folds have touched the point
---   u32     keeps         7F + 4V     3F      keep of each open pair, or of the pair of each entry of the queue
+--   u32     entries       7F + 4V     12F     of each entry of the queue, in the order of the heap: keep, remove, and the stamps of both
+--   u32     keeps         7F + 4V     3F      keep of each open pair of the plain walk, which has no queue
 --   u32     removes       10F + 4V    3F      remove, likewise
---   u32     near          13F + 4V    F       faces around a point, or around keep, while they are looked at
---   u32     far           14F + 4V    F       faces around remove, likewise
---   u32     around        15F + 4V    V       points around a point, while they are looked at
---   u32     order         15F + 5V    3F      the slots of the queue, the least first
---   u32     keepStamps    18F + 5V    3F      keep's stamp, of each entry of the queue
---   u32     removeStamps  21F + 5V    3F      remove's stamp, likewise
---   u32     folds         24F + 5V    2F      keep and remove of each fold made
+--   u32     near          19F + 4V    F       faces around a point, or around keep, while they are looked at
+--   u32     far           20F + 4V    F       faces around remove, likewise
+--   u32     around        21F + 4V    V       points around a point, while they are looked at
+--   u32     folds         21F + 5V    2F      keep and remove of each fold made
 --   f32     points        0           3V      the three parts of each point
 --   f32     places        3V          9F      the three parts of the place of each entry of the queue
 --   f64     quadrics      0           10V     the ten parts of each point's quadric
@@ -45,6 +43,9 @@ marksFrom v f = 7 * f + 2 * v
 abbrev pub stampsFrom : ℕ → ℕ → ℕ
 stampsFrom v f = 7 * f + 3 * v
 
+abbrev pub entriesFrom : ℕ → ℕ → ℕ
+entriesFrom v f = 7 * f + 4 * v
+
 abbrev pub keepsFrom : ℕ → ℕ → ℕ
 keepsFrom v f = 7 * f + 4 * v
 
@@ -52,29 +53,20 @@ abbrev pub removesFrom : ℕ → ℕ → ℕ
 removesFrom v f = 10 * f + 4 * v
 
 abbrev pub nearFrom : ℕ → ℕ → ℕ
-nearFrom v f = 13 * f + 4 * v
+nearFrom v f = 19 * f + 4 * v
 
 abbrev pub farFrom : ℕ → ℕ → ℕ
-farFrom v f = 14 * f + 4 * v
+farFrom v f = 20 * f + 4 * v
 
 abbrev pub aroundFrom : ℕ → ℕ → ℕ
-aroundFrom v f = 15 * f + 4 * v
-
-abbrev pub orderFrom : ℕ → ℕ → ℕ
-orderFrom v f = 15 * f + 5 * v
-
-abbrev pub keepStampsFrom : ℕ → ℕ → ℕ
-keepStampsFrom v f = 18 * f + 5 * v
-
-abbrev pub removeStampsFrom : ℕ → ℕ → ℕ
-removeStampsFrom v f = 21 * f + 5 * v
+aroundFrom v f = 21 * f + 4 * v
 
 abbrev pub foldsFrom : ℕ → ℕ → ℕ
-foldsFrom v f = 24 * f + 5 * v
+foldsFrom v f = 21 * f + 5 * v
 
 -- where the last part ends
 abbrev pub workTo : ℕ → ℕ → ℕ
-workTo v f = 26 * f + 5 * v
+workTo v f = 23 * f + 5 * v
 
 -- ---- f32 and f64
 

@@ -120,7 +120,7 @@ pub fn near_at(w: &[u32], v: usize, f: usize, i: usize) -> u32
     requires { ⌜ nearFrom v f + i < length (now w) ⌝ }
     ensures { λ r. ⌜ r ≡ nearAt v f (now (w .entry)) i ⌝ }
 {
-    w[13 * f + 4 * v + i]
+    w[19 * f + 4 * v + i]
 }
 
 // The point in a place of the list of the points around a point.
@@ -128,7 +128,7 @@ pub fn around_at(w: &[u32], v: usize, f: usize, i: usize) -> u32
     requires { ⌜ aroundFrom v f + i < length (now w) ⌝ }
     ensures { λ r. ⌜ r ≡ getD (now (w .entry)) (aroundFrom v f + i) 0 ⌝ }
 {
-    w[15 * f + 4 * v + i]
+    w[21 * f + 4 * v + i]
 }
 
 // Puts a point into a place of the list of the points around a point.
@@ -136,5 +136,5 @@ pub fn set_around(w: &mut [u32], v: usize, f: usize, i: usize, value: u32)
     requires { ⌜ aroundFrom v f + i < length (now w) ⌝ }
     ensures { λ _. ⌜ now (w .exit) ≡ set (now (w .entry)) (aroundFrom v f + i) value ⌝ }
 {
-    w[15 * f + 4 * v + i] = value;
+    w[21 * f + 4 * v + i] = value;
 }

@@ -2,16 +2,22 @@
 ghost use mathlib.Core.Path.{_≡_};
 ghost use Prim.Native.Nat.{_+_, _*_, _<_};
 ghost use lib.ListN.{length, set};
-ghost use Rattle.memory.specs.Layout.{keepsFrom, removesFrom, orderFrom, stampsFrom, keepStampsFrom, removeStampsFrom, costsFrom};
+ghost use lib.Seq.{sets};
+ghost use Rattle.memory.specs.Layout.{keepsFrom, removesFrom, stampsFrom, entriesFrom, costsFrom};
 ghost use Rattle.memory.specs.Memory.{Room};
-ghost use Rattle.memory.specs.Entries.{pairAt, slotAt, stamp, keepStamp, removeStamp, costIn, withFold};
+ghost use Rattle.memory.specs.Entries.{pairAt, stamp, costIn, entryPair, entryIn, entryWords, EntryRoom, EntrySet, withFold};
+use crate::points::point_at;
+use crate::points::set_point;
+use geometry::Point;
 use walk::Pair;
 
-// A number as an index.
-fn index(x: u32) -> usize
-    ensures { λ r. ⌜ r ≡ x ⌝ }
-{
-    x as usize
+// What is stored of a pair in the queue: the cost and the place that it had when the entry was made, and the stamps that its points had then.
+pub struct Entry {
+    pub pair: Pair,
+    pub cost: f64,
+    pub place: Point,
+    pub keepstamp: u32,
+    pub removestamp: u32,
 }
 
 // Writes two cells, one after the other.
@@ -47,33 +53,6 @@ pub fn set_pair(w: &mut [u32], v: usize, f: usize, i: usize, keep: u32, remove: 
     set_two(w, 7 * f + 4 * v + i, keep, 10 * f + 4 * v + i, remove);
 }
 
-// The slot in a place of the order.
-pub fn slot_at(w: &[u32], v: usize, f: usize, i: usize) -> usize
-    requires { ⌜ i < 3 * f ⌝ ∗ ⌜ Room v f (now w) ⌝ }
-    ensures { λ r. ⌜ r ≡ slotAt v f (now (w .entry)) i ⌝ }
-{
-    index(w[15 * f + 5 * v + i])
-}
-
-// Puts a slot into a place of the order.
-pub fn set_slot(w: &mut [u32], v: usize, f: usize, i: usize, slot: u32)
-    requires { ⌜ orderFrom v f + i < length (now w) ⌝ }
-    ensures { λ _. ⌜ now (w .exit) ≡ set (now (w .entry)) (orderFrom v f + i) slot ⌝ }
-{
-    w[15 * f + 5 * v + i] = slot;
-}
-
-// Exchanges the slots in two places of the order.
-pub fn swap_slots(w: &mut [u32], v: usize, f: usize, i: usize, j: usize)
-    requires { ⌜ i < 3 * f ⌝ ∗ ⌜ j < 3 * f ⌝ ∗ ⌜ Room v f (now w) ⌝ }
-    ensures { λ _. ⌜ now (w .exit) ≡ set (set (now (w .entry)) (orderFrom v f + i) (slotAt v f (now (w .entry)) j)) (orderFrom v f + j) (slotAt v f (now (w .entry)) i) ⌝ }
-{
-    let from = 15 * f + 5 * v;
-    let first = w[from + i];
-    let second = w[from + j];
-    set_two(w, from + i, second, from + j, first);
-}
-
 // A point's stamp.
 pub fn stamp_at(w: &[u32], v: usize, f: usize, x: usize) -> u32
     requires { ⌜ x < v ⌝ ∗ ⌜ Room v f (now w) ⌝ }
@@ -90,44 +69,73 @@ pub fn set_stamp(w: &mut [u32], v: usize, f: usize, x: usize, value: u32)
     w[7 * f + 3 * v + x] = value;
 }
 
-// The stamp that keep had when the entry in a slot was made.
-pub fn keep_stamp_at(w: &[u32], v: usize, f: usize, s: usize) -> u32
-    requires { ⌜ s < 3 * f ⌝ ∗ ⌜ Room v f (now w) ⌝ }
-    ensures { λ r. ⌜ r ≡ keepStamp v f (now (w .entry)) s ⌝ }
+// The cost of the entry in a place.
+pub fn cost_at(q: &[f64], v: usize, i: usize) -> f64
+    requires { ⌜ costsFrom v + i < length (now q) ⌝ }
+    ensures { λ r. ⌜ r ≡ costIn v (now (q .entry)) i ⌝ }
 {
-    w[18 * f + 5 * v + s]
+    q[10 * v + i]
 }
 
-// The stamp that remove had.
-pub fn remove_stamp_at(w: &[u32], v: usize, f: usize, s: usize) -> u32
-    requires { ⌜ s < 3 * f ⌝ ∗ ⌜ Room v f (now w) ⌝ }
-    ensures { λ r. ⌜ r ≡ removeStamp v f (now (w .entry)) s ⌝ }
+// The pair of the entry in a place.
+pub fn entry_pair(w: &[u32], v: usize, f: usize, i: usize) -> Pair
+    requires { ⌜ i < 3 * f ⌝ ∗ ⌜ Room v f (now w) ⌝ }
+    ensures { λ r. ⌜ r ≡ entryPair v f (now (w .entry)) i ⌝ }
 {
-    w[21 * f + 5 * v + s]
+    let at = 7 * f + 4 * v + 4 * i;
+    Pair {
+        keep: w[at],
+        remove: w[at + 1],
+    }
 }
 
-// Puts the two stamps of an entry into its slot.
-pub fn set_stamps(w: &mut [u32], v: usize, f: usize, s: usize, keep: u32, remove: u32)
-    requires { ⌜ s < 3 * f ⌝ ∗ ⌜ Room v f (now w) ⌝ }
-    ensures { λ _. ⌜ now (w .exit) ≡ set (set (now (w .entry)) (keepStampsFrom v f + s) keep) (removeStampsFrom v f + s) remove ⌝ }
+// The entry in a place.
+pub fn entry_at(w: &[u32], p: &[f32], q: &[f64], v: usize, f: usize, i: usize) -> Entry
+    requires { ⌜ i < 3 * f ⌝ ∗ ⌜ EntryRoom v f (now w) (now p) (now q) ⌝ }
+    ensures { λ r. ⌜ r ≡ entryIn v f (now (w .entry)) (now (p .entry)) (now (q .entry)) i ⌝ }
 {
-    set_two(w, 18 * f + 5 * v + s, keep, 21 * f + 5 * v + s, remove);
+    let pair = entry_pair(w, v, f, i);
+    let place = point_at(p, v + i);
+    let at = 7 * f + 4 * v + 4 * i;
+    Entry {
+        pair,
+        cost: cost_at(q, v, i),
+        place,
+        keepstamp: w[at + 2],
+        removestamp: w[at + 3],
+    }
 }
 
-// The cost of the entry in a slot.
-pub fn cost_at(q: &[f64], v: usize, s: usize) -> f64
-    requires { ⌜ costsFrom v + s < length (now q) ⌝ }
-    ensures { λ r. ⌜ r ≡ costIn v (now (q .entry)) s ⌝ }
+// Writes the four numbers of an entry into its place.
+fn set_words(w: &mut [u32], v: usize, f: usize, i: usize, entry: Entry)
+    requires { ⌜ i < 3 * f ⌝ ∗ ⌜ Room v f (now w) ⌝ }
+    ensures { λ _. ⌜ now (w .exit) ≡ sets (now (w .entry)) (entriesFrom v f + 4 * i) (entryWords entry) ⌝ }
 {
-    q[10 * v + s]
+    let pair = entry.pair;
+    let at = 7 * f + 4 * v + 4 * i;
+    w[at] = pair.keep;
+    w[at + 1] = pair.remove;
+    w[at + 2] = entry.keepstamp;
+    w[at + 3] = entry.removestamp;
 }
 
-// Puts a cost into a slot.
-pub fn set_cost(q: &mut [f64], v: usize, s: usize, cost: f64)
-    requires { ⌜ costsFrom v + s < length (now q) ⌝ }
-    ensures { λ _. ⌜ now (q .exit) ≡ set (now (q .entry)) (costsFrom v + s) cost ⌝ }
+// Writes an entry into a place.
+pub fn set_entry(
+    w: &mut [u32],
+    p: &mut [f32],
+    q: &mut [f64],
+    v: usize,
+    f: usize,
+    i: usize,
+    entry: Entry,
+)
+    requires { ⌜ i < 3 * f ⌝ ∗ ⌜ EntryRoom v f (now w) (now p) (now q) ⌝ }
+    ensures { λ _. ⌜ EntrySet v f (now (w .entry)) (now (p .entry)) (now (q .entry)) i entry (now (w .exit)) (now (p .exit)) (now (q .exit)) ⌝ }
 {
-    q[10 * v + s] = cost;
+    set_words(w, v, f, i, entry);
+    let place = entry.place;
+    set_point(p, v + i, place);
+    q[10 * v + i] = entry.cost;
 }
 
 // Writes a fold down, after others.
@@ -135,6 +143,6 @@ pub fn note_fold(w: &mut [u32], v: usize, f: usize, folds: usize, pair: Pair)
     requires { ⌜ folds < f ⌝ ∗ ⌜ Room v f (now w) ⌝ }
     ensures { λ _. ⌜ now (w .exit) ≡ withFold v f folds (pair .keep) (pair .remove) (now (w .entry)) ⌝ }
 {
-    let at = 24 * f + 5 * v + 2 * folds;
+    let at = 21 * f + 5 * v + 2 * folds;
     set_two(w, at, pair.keep, at + 1, pair.remove);
 }

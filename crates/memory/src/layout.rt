@@ -32,7 +32,7 @@ pub fn near_from(v: usize, f: usize) -> usize
     requires { ⌜ nearFrom v f < 2 ^ 64 ⌝ }
     ensures { λ r. ⌜ r ≡ nearFrom v f ⌝ }
 {
-    13 * f + 4 * v
+    19 * f + 4 * v
 }
 
 // The faces around remove.
@@ -40,7 +40,7 @@ pub fn far_from(v: usize, f: usize) -> usize
     requires { ⌜ farFrom v f < 2 ^ 64 ⌝ }
     ensures { λ r. ⌜ r ≡ farFrom v f ⌝ }
 {
-    14 * f + 4 * v
+    20 * f + 4 * v
 }
 
 // The folds that are written down.
@@ -48,5 +48,5 @@ pub fn folds_from(v: usize, f: usize) -> usize
     requires { ⌜ foldsFrom v f < 2 ^ 64 ⌝ }
     ensures { λ r. ⌜ r ≡ foldsFrom v f ⌝ }
 {
-    24 * f + 5 * v
+    21 * f + 5 * v
 }

@@ -31,7 +31,7 @@ use Rattle.openpairs.proofs.OpenLaws.{open-none, open-length}
 use Rattle.openpairs.specs.Contracts.Edges.{risingFrom}
 use Rattle.lists.proofs.FrameLaws.{but-refl, but-then}
 use Rattle.memory.proofs.MeshLaws.{mesh-but, mesh-length}
-use Rattle.memory.specs.Layout.{keepsFrom, orderFrom}
+use Rattle.memory.specs.Layout.{keepsFrom, foldsFrom}
 use Rattle.mesh.proofs.AroundLaws.{live-few, live-proper}
 
 -- the start opens at most three pairs for each slot
@@ -55,7 +55,7 @@ rising-sum rules m g =
 
 -- the pairs of the points below x are open
 pub record Starting (v f : ℕ) (w₀ : List ℕ) (p q : List Float) (limit : Limit) (bound : Float) (w : List ℕ) (n x : ℕ) : Type 0 where
-  pub but : But (keepsFrom v f) (orderFrom v f) w₀ w
+  pub but : But (keepsFrom v f) (foldsFrom v f) w₀ w
   pub sums : (g : Pair → ℕ) → sum g (openPairs v f w n) ≡ sum (λ y. sum g (risingFrom (rulesOf limit bound) (meshOf v f w₀ p q) y)) (below x)
 
 module _ {v f : ℕ} {w₀ : List ℕ} {p q : List Float} {limit : Limit} {bound : Float} where

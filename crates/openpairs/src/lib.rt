@@ -5,6 +5,8 @@ mod pairs;
 pub use opening::open_neighbours;
 pub use opening::open_start;
 pub use pairs::Least;
+pub use pairs::Ranked;
 pub use pairs::close_pair;
+pub use pairs::comes_first;
 pub use pairs::drop_pairs;
 pub use pairs::least_pair;

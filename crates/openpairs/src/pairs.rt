@@ -133,7 +133,7 @@ fn ranked_at(
 }
 
 // Whether a pair comes before another in the order: by the key of its cost, then by keep, then by remove.
-fn comes_first(a: Ranked, b: Ranked) -> bool
+pub fn comes_first(a: Ranked, b: Ranked) -> bool
     ensures { λ r. ⌜ r ≡ ltb (rank a) (rank b) ⌝ }
 {
     if a.key < b.key {

@@ -1,1 +1,2 @@
 pub mod PlacementLaws
+pub mod NearLaws

@@ -9,6 +9,7 @@ use geometry::Point;
 use geometry::Quadric;
 use geometry::is_finite;
 ghost use mathlib.Core.Path.{_≡_};
+ghost use Rattle.placement.specs.Choices.{aboveLimit};
 ghost use Rattle.placement.specs.Pairs.{pairQuadric, pairLength, pairChoice, pairPlace, pairCost, eligible, pairCandidate};
 
 // What the thinning keeps of a point.
@@ -38,31 +39,35 @@ pub fn pair_length(keep: Vertex, remove: Vertex) -> f32
     keep.point.difference(remove.point).norm()
 }
 
-// The place of a pair for a length that is known, with the error there.
-fn pair_choice(keep: Vertex, remove: Vertex, length: f32, bound: f32) -> Choice
-    ensures { λ r. ⌜ r ≡ pairChoice bound length keep remove ⌝ }
+// Whether a pair is longer than the limit. Its length is worked out only where there is one.
+fn is_too_long(keep: Vertex, remove: Vertex, limit: Limit) -> bool
+    ensures { λ r. ⌜ r ≡ aboveLimit (pairLength keep remove) limit ⌝ }
 {
-    choose(
-        pair_quadric(keep, remove),
-        keep.point,
-        remove.point,
-        length,
-        bound,
-    )
+    match limit {
+        Limit::Unlimited => false,
+        Limit::AtMost(_) => is_above(pair_length(keep, remove), limit),
+    }
+}
+
+// The place of a pair with the error there.
+fn pair_choice(keep: Vertex, remove: Vertex, bound: f32) -> Choice
+    ensures { λ r. ⌜ r ≡ pairChoice bound (pairLength keep remove) keep remove ⌝ }
+{
+    choose(pair_quadric(keep, remove), keep.point, remove.point, bound)
 }
 
 // The place of a pair.
 pub fn pair_place(keep: Vertex, remove: Vertex, bound: f32) -> Point
     ensures { λ r. ⌜ r ≡ pairPlace bound keep remove ⌝ }
 {
-    pair_choice(keep, remove, pair_length(keep, remove), bound).place
+    pair_choice(keep, remove, bound).place
 }
 
 // The error at the place of a pair.
 pub fn pair_cost(keep: Vertex, remove: Vertex, bound: f32) -> f64
     ensures { λ r. ⌜ r ≡ pairCost bound keep remove ⌝ }
 {
-    pair_choice(keep, remove, pair_length(keep, remove), bound).cost
+    pair_choice(keep, remove, bound).cost
 }
 
 // The cost and the place of a pair that may be opened. A pair that is refused for its ends or its length isn't solved.
@@ -74,11 +79,10 @@ pub fn pair_candidate(keep: Vertex, remove: Vertex, limit: Limit, bound: f32) ->
     if is_fixed(keep_kind) | is_fixed(remove_kind) {
         return Candidate::Ineligible;
     }
-    let length = pair_length(keep, remove);
-    if is_above(length, limit) {
+    if is_too_long(keep, remove, limit) {
         return Candidate::Ineligible;
     }
-    let choice = pair_choice(keep, remove, length, bound);
+    let choice = pair_choice(keep, remove, bound);
     let place = choice.place;
     if is_finite(choice.cost) {
         Candidate::Eligible(choice.cost, place)

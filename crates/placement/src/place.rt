@@ -4,10 +4,16 @@ use crate::inverse::inverse;
 use geometry::Point;
 use geometry::Quadric;
 ghost use mathlib.Core.Path.{_≡_};
-ghost use Rattle.placement.specs.Places.{solvedPart, solved, longerOf, inSize, stands, tested as testedOf, withError, cheaperChoice, fallback as fallbackOf, placeOf};
+ghost use mathlib.Core.Bool.{true};
+ghost use lib.Ieee.{binary32, mul, le};
+ghost use Rattle.geometry.specs.Points.{difference as differenceOf, norm as normOf};
+ghost use Rattle.placement.specs.Places.{two, solvedPart, solved, longerOf, inSize, stands, tested as testedOf, withError, cheaperChoice, fallback as fallbackOf, placeOf};
 
 // The least length that the reach of a pair is taken from: 2^-23, Rust's f32::EPSILON.
 const LEAST: f32 = 1.0 / 8388608.0;
+
+// The largest square of a length that decides a distance: four times a larger one might not be finite.
+const LARGEST: f32 = 1.0e30;
 
 // A solved point by its parts, or none.
 pub enum Placement {
@@ -65,24 +71,44 @@ fn longer(length: f32) -> f32
     if length > LEAST { length } else { LEAST }
 }
 
-// Whether a solved point may stand: finite, of a size within the bound, and near keep.
-fn may_stand(p: Point, keep: Point, length: f32, bound: f32) -> bool
-    ensures { λ r. ⌜ r ≡ stands bound length keep p ⌝ }
+// Whether the squares of two ways show that the one is at most twice the length of the other: four times a square is exact, and its root is
+// twice the root.
+fn is_surely_near(way: Point, other: Point) -> bool
+    ensures { λ r. ⌜ (r ≡ true → le (normOf way) (mul binary32 two (longerOf (normOf other))) ≡ true) ⌝ }
+{
+    let square = other.dot(other);
+    (way.dot(way) <= 4.0 * square) & (square <= LARGEST)
+}
+
+// Whether a way is at most twice the length of another, which counts as 2^-23 at least. Roots take long, so they are taken only where the
+// squares leave it open.
+fn is_near(way: Point, other: Point) -> bool
+    ensures { λ r. ⌜ r ≡ le (normOf way) (mul binary32 two (longerOf (normOf other))) ⌝ }
+{
+    if is_surely_near(way, other) {
+        return true;
+    }
+    way.norm() <= 2.0 * longer(other.norm())
+}
+
+// Whether a solved point may stand: finite, of a size within the bound, and near keep, by the way from one end of the pair to the other.
+fn may_stand(p: Point, keep: Point, apart: Point, bound: f32) -> bool
+    ensures { λ r. ⌜ r ≡ stands bound (normOf apart) keep p ⌝ }
 {
     if p.all_finite() & in_size(p.x, bound) & in_size(p.y, bound) & in_size(p.z, bound) {
-        p.difference(keep).norm() <= 2.0 * longer(length)
+        is_near(p.difference(keep), apart)
     } else {
         false
     }
 }
 
 // A solved point that may stand, or none.
-fn tested(solved: Placement, keep: Point, length: f32, bound: f32) -> Placement
-    ensures { λ r. ⌜ r ≡ testedOf bound length keep solved ⌝ }
+fn tested(solved: Placement, keep: Point, apart: Point, bound: f32) -> Placement
+    ensures { λ r. ⌜ r ≡ testedOf bound (normOf apart) keep solved ⌝ }
 {
     match solved {
         Placement::Solved(x, y, z) => {
-            if may_stand(Point { x, y, z }, keep, length, bound) {
+            if may_stand(Point { x, y, z }, keep, apart, bound) {
                 solved
             } else {
                 Placement::Unsolved
@@ -124,10 +150,10 @@ fn fallback(q: Quadric, keep: Point, remove: Point) -> Choice
 }
 
 // The place of a pair with the error there.
-pub fn choose(q: Quadric, keep: Point, remove: Point, length: f32, bound: f32) -> Choice
-    ensures { λ r. ⌜ r ≡ withError q (placeOf bound length q keep remove) ⌝ }
+pub fn choose(q: Quadric, keep: Point, remove: Point, bound: f32) -> Choice
+    ensures { λ r. ⌜ r ≡ withError q (placeOf bound (normOf (differenceOf keep remove)) q keep remove) ⌝ }
 {
-    match tested(solve(q), keep, length, bound) {
+    match tested(solve(q), keep, keep.difference(remove), bound) {
         Placement::Solved(x, y, z) => with_error(q, Point { x, y, z }),
         Placement::Unsolved => fallback(q, keep, remove),
     }

@@ -1,7 +1,6 @@
--- The f32 root of a bounded float that is not negative: it rises with the float's pattern, it is finite, and it is at least what the root of a smaller
--- pattern is. Assumes nothing.
+-- The f32 root of a bounded float that is not negative: it is finite, and it is at least what the root of a smaller pattern is. Assumes nothing.
 use Prim.Native.Nat.{ℕ, _+_, _-_, _*_, _/_, _^_, _≤_, _<_}
-use native.Mathlib.Nat.{le-trans, le-of-eq, le-of-lt, lt-of-lt-of-le, lt-of-le-of-lt, lt-trans, lt-irrefl, eq-or-lt-of-le, mul-one, mul-comm, mul-right-comm, mul-le-mul, mul-le-mul-left, mul-le-mul-right, le-of-mul-le-mul-right, mul-lt-mul-of-pos-right, div-lt-iff-lt-mul}
+use native.Mathlib.Nat.{le-trans, le-of-eq, lt-of-lt-of-le, lt-of-le-of-lt, lt-irrefl, mul-one, mul-comm, mul-right-comm, mul-le-mul-right, le-of-mul-le-mul-right, mul-lt-mul-of-pos-right, div-lt-iff-lt-mul}
 use native.Mathlib.Omega.{arith}
 use mathlib.Core.Path.{_≡_, refl, sym, ap, subst, _∙_}
 use mathlib.Core.Logic.{⊎-elim}
@@ -14,45 +13,13 @@ use lib.Ieee.Fits.{down-pos, kept-lt}
 use lib.Ieee.Exact.{HasValue}
 use lib.Ieee.Bits.{ofBits-toBits}
 use lib.Ieee.Scale.{finite}
-use Rattle.bits.specs.Root.{steps, halfway, fourfold, finiteRoot, rootBits, root}
-use Rattle.bits.proofs.RootSteps.{lt-or-le, steps-rise, halfway-rise}
-use Rattle.bits.proofs.RootLaws.{root-meets, root-of-zero, rootBits-finite}
+use Rattle.bits.specs.Root.{steps, finiteRoot, rootBits, root}
+use Rattle.bits.proofs.RootSteps.{lt-or-le, steps-rise}
+use Rattle.bits.proofs.RootLaws.{root-of-zero, rootBits-finite}
+use Rattle.bits.proofs.RootOrder.{steps-mono, root-mono, root-below}
 use Rattle.bits.proofs.RootValues.{steps-value}
 use Rattle.bits.proofs.NotBelowZero.{NotBelow, number}
 use Rattle.promises.proofs.Floats.{AtMost, most, Has, AtLeast, least}
-
--- ---- the root rises with the pattern
-
--- so do the numbers that the root's statement compares: those of patterns
-steps-mono : (a b : ℕ) → a ≤ b → steps a ≤ steps b
-steps-mono a b h = ⊎-elim (λ e. le-of-eq (ap steps e)) (λ l. le-of-lt (steps-rise a b l)) (eq-or-lt-of-le h)
-
--- and four times those
-fourfold-mono : (a b : ℕ) → a ≤ b → fourfold a ≤ fourfold b
-unfolding fourfold
-fourfold-mono a b h = go (2 ^ 149)
-  where
-    go : (w : ℕ) → 4 * (steps a * w) ≤ 4 * (steps b * w)
-    go w = mul-le-mul-left 4 (mul-le-mul-right w (steps-mono a b h))
-
--- the root of a larger pattern is no smaller
-pub root-mono : (a b : ℕ) → a ≤ b → b < 0x7f80_0000 → finiteRoot a ≤ finiteRoot b
-root-mono a b h top = ⊎-elim (λ l. absurd (wrong l)) (λ l. l) (lt-or-le (finiteRoot b) (finiteRoot a))
-  where
-    wrong : finiteRoot b < finiteRoot a → ⊥
-    wrong l =
-        let up : halfway (finiteRoot b) ≤ halfway (finiteRoot a - 1) = halfway-rise (finiteRoot b) (finiteRoot a - 1) (omega arith) in
-        lt-irrefl (halfway (finiteRoot a - 1) * halfway (finiteRoot a - 1))
-        (lt-of-lt-of-le (lt-trans (lt-of-lt-of-le (root-meets a (lt-of-le-of-lt h top) .above (omega arith)) (fourfold-mono a b h)) (root-meets b top .below)) (mul-le-mul up up))
-
--- the root of the largest finite pattern is finite
-last-root : finiteRoot 0x7f7f_ffff < 0x7f80_0000
-unfolding finiteRoot
-last-root = lit≤ tt
-
--- and so is every root below it
-pub root-below : (b : ℕ) → b < 0x7f80_0000 → finiteRoot b < 0x7f80_0000
-root-below b h = lt-of-le-of-lt (root-mono b 0x7f7f_ffff (omega arith) (lit≤ tt)) last-root
 
 -- ---- the pattern of a bounded float that is not negative
 

@@ -9,18 +9,10 @@ use mathlib.Core.Bool.{Bool, true, false, not}
 use lib.Dec.{ltb, eqb}
 use borrow.Author.Tests.{lt-ltb, le-ltb, ltb-true, ltb-false, eqb-true, eqb-false, not-true, not-false}
 use Rattle.lists.proofs.TestLaws.{by-test}
-use Rattle.queue.specs.Contracts.Places.{lesserOf}
-
--- the place over another
-abbrev pub over : ℕ → ℕ
-over k = (k - 1) / 2
-
--- from place lo on, none of the first n is below the one over it
-abbrev pub Heap : ℕ → (ℕ → ℕ) → ℕ → Type 0
-Heap lo r n = (k : ℕ) → 0 < k → k < n → lo ≤ over k → r (over k) ≤ r k
+use Rattle.queue.specs.Contracts.Ranks.{over, Heap, lesserOf, LowestUnder}
 
 -- two of the first n have changed places
-pub record Exchanged (r r' : ℕ → ℕ) (n i j : ℕ) : Type 0 where
+pub record Exchanged {A : Type 0} (r r' : ℕ → A) (n i j : ℕ) : Type 0 where
   pub first : r' i ≡ r j
   pub second : r' j ≡ r i
   pub other : (k : ℕ) → k < n → k ≢ i → k ≢ j → r' k ≡ r k
@@ -31,9 +23,9 @@ by-same m n same other = by-test (eqb m n) (λ e. same (eqb-true m n e)) (λ e. 
 
 -- ---- a heap from a place on
 
--- the second half has none under it
-pub heap-halves : (r : ℕ → ℕ) {lo n : ℕ} → n ≤ 2 * lo + 1 → Heap lo r n
-heap-halves r high k positive inside low = absurd (omega arith)
+-- the last three quarters have none under them
+pub heap-quarters : (r : ℕ → ℕ) {lo n : ℕ} → n ≤ 4 * lo + 1 → Heap lo r n
+heap-quarters r high k positive inside low = absurd (omega arith)
 
 -- from a higher place on
 pub heap-higher : (r : ℕ → ℕ) {lo lo' n : ℕ} → lo ≤ lo' → Heap lo r n → Heap lo' r n
@@ -106,7 +98,7 @@ module _ {r : ℕ → ℕ} where
         (λ e. omega (arith, ap r' e, exchanged .first))
         (λ e. omega (arith, exchanged .other k inside e (omega arith), ap r beside, rising .ordered k positive inside e))
 
-    rising-over : Rising r' n (over at)
+    pub rising-over : Rising r' n (over at)
     rising-over =
         let inside-at = rising .within in
         record { within = omega arith; ordered = rising-ordered; past = rising-past }
@@ -154,31 +146,32 @@ first-lower {r} {n} {i} {j} {first} inside e =
     chosen-first : (j < n → r i ≤ r j) → first ≡ i → Lower r n i j first
     chosen-first l d = record { within = omega arith; either = inl d; one = omega (arith, ap r d); two = λ m. omega (arith, ap r d, l m) }
 
--- of a place and those under it that are below n, the one of lowest rank
-pub record Lowest (r : ℕ → ℕ) (n at first : ℕ) : Type 0 where
-  pub within : first < n
-  pub under-at : first ≢ at → (0 < first) × (over first ≡ at)
-  pub not-above : r first ≤ r at
-  pub not-under : (k : ℕ) → 0 < k → k < n → over k ≡ at → r first ≤ r k
-
--- found by two comparisons
-pub lowest-found : {r : ℕ → ℕ} {n at left first : ℕ} → Lower r n at (2 * at + 1) left → Lower r n left (2 * at + 2) first → Lowest r n at first
-lowest-found {r} {n} {at} {left} {first} one two =
+-- of the four under a place, by three comparisons
+pub lowest-found : {r : ℕ → ℕ} {n at second third first : ℕ} → Lower r n (4 * at + 1) (4 * at + 1 + 1) second → Lower r n second (4 * at + 1 + 2) third →
+    Lower r n third (4 * at + 1 + 3) first → LowestUnder r n at first
+lowest-found {r} {n} {at} {second} {third} {first} one two three =
+    let (above, low) = ⊎-elim (λ d. ⊎-elim (λ e. ⊎-elim (λ g. under-by 0 (omega arith) (omega arith)) (λ g. under-by 1 (omega arith) (omega arith)) (one .either))
+    (λ e. under-by 2 (omega arith) (omega arith)) (two .either)) (λ d. under-by 3 (omega arith) (omega arith)) (three .either) in
     record {
-      within = two .within;
-      under-at = λ other.
-          ⊎-elim
-          (λ d. ⊎-elim (λ e. absurd (other (d ∙ e))) (λ e. (omega arith, omega arith)) (one .either))
-          (λ d. (omega arith, omega arith))
-          (two .either);
-      not-above = omega (arith, one .one, two .one);
-      not-under = λ k positive inside under.
-          by-same k (2 * at + 1)
-          (λ e. omega (arith, ap r e, one .two (omega arith), two .one))
+      within = three .within;
+      positive = above;
+      under = low;
+      lowest = λ k positive inside under.
+          by-same k (4 * at + 1)
+          (λ e. omega (arith, ap r e, one .one, two .one, three .one))
           (λ e.
-          let last : k ≡ 2 * at + 2 = omega arith in
-          omega (arith, ap r last, two .two (omega arith)));
+          by-same k (4 * at + 1 + 1)
+          (λ d. omega (arith, ap r d, one .two (omega arith), two .one, three .one))
+          (λ d.
+          by-same k (4 * at + 1 + 2)
+          (λ b. omega (arith, ap r b, two .two (omega arith), three .one))
+          (λ b.
+          let last : k ≡ 4 * at + 1 + 3 = omega arith in
+          omega (arith, ap r last, three .two (omega arith)))));
     }
+  where
+    under-by : (m : ℕ) → m < 4 → first ≡ 4 * at + 1 + m → (0 < first) × (over first ≡ at)
+    under-by m small e = (omega arith, omega arith)
 
 -- ---- an entry that moves down
 
@@ -205,21 +198,22 @@ module _ {r : ℕ → ℕ} {lo n : ℕ} where
       (λ e. omega (arith, here k positive inside e, ap r e))
       (λ e. sinking .ordered k positive inside down e)
 
-  -- nor is the lowest of them another
-  pub sinking-stop : {at first : ℕ} → Sinking lo r n at → Lowest r n at first → first ≡ at → Heap lo r n
-  sinking-stop sinking lowest same =
-      sinking-done sinking (λ k positive inside under. omega (arith, ap r same, lowest .not-under k positive inside under))
+  -- nor above the lowest of them
+  pub sinking-stop : {at first : ℕ} → Sinking lo r n at → LowestUnder r n at first → r at ≤ r first → Heap lo r n
+  sinking-stop sinking low here =
+      sinking-done sinking (λ k positive inside under. omega (arith, here, low .lowest k positive inside under))
 
-  module _ {r' : ℕ → ℕ} {at first : ℕ} (sinking : Sinking lo r n at) (lowest : Lowest r n at first) (positive : 0 < first) (under : over first ≡ at)
-      (exchanged : Exchanged r r' n at first) where
+  module _ {r' : ℕ → ℕ} {at first : ℕ} (sinking : Sinking lo r n at) (low : LowestUnder r n at first) (below-it : r first ≤ r at) (exchanged : Exchanged r r' n at first) where
     sinking-ordered : (k : ℕ) → 0 < k → k < n → lo ≤ over k → over k ≢ first → r' (over k) ≤ r' k
     sinking-ordered k above inside down other =
-        let inside-first = lowest .within in
+        let inside-first = low .within in
+        let positive = low .positive in
+        let under = low .under in
         by-same (over k) at
         (λ e.
         by-same k first
-        (λ d. omega (arith, ap r' e, ap r' d, exchanged .first, exchanged .second, lowest .not-above))
-        (λ d. omega (arith, ap r' e, exchanged .first, exchanged .other k inside (omega arith) d, lowest .not-under k above inside e)))
+        (λ d. omega (arith, ap r' e, ap r' d, exchanged .first, exchanged .second, below-it))
+        (λ d. omega (arith, ap r' e, exchanged .first, exchanged .other k inside (omega arith) d, low .lowest k above inside e)))
         (λ e.
         let same = exchanged .other (over k) (omega arith) e other in
         by-same k at
@@ -230,8 +224,11 @@ module _ {r : ℕ → ℕ} {lo n : ℕ} where
 
     sinking-past : (k : ℕ) → 0 < k → k < n → over k ≡ first → 0 < first → lo ≤ over first → r' (over first) ≤ r' k
     sinking-past k above inside e more down =
+        let under = low .under in
         let same = exchanged .other k inside (omega arith) (omega arith) in
         omega (arith, ap r' under, exchanged .first, ap r e, sinking .ordered k above inside (omega (arith, sinking .low)) (omega arith))
 
     pub sinking-turn : Sinking lo r' n first
-    sinking-turn = record { low = omega (arith, sinking .low); ordered = sinking-ordered; past = sinking-past }
+    sinking-turn =
+        let under = low .under in
+        record { low = omega (arith, sinking .low, low .positive); ordered = sinking-ordered; past = sinking-past }

@@ -1,74 +1,86 @@
--- The entry on top is taken off: it changes places with the last one, which then moves down.
+-- The entry on top is taken off: the last one is let down from there.
 -- Assumes nothing.
-use Prim.Native.Nat.{ℕ, _-_, _*_, _≤_, _<_}
+use Prim.Native.Nat.{ℕ, _+_, _-_, _*_, _≤_, _<_}
+use native.Mathlib.Numerals.{add-one}
 use native.Mathlib.Omega.{arith}
-use mathlib.Core.Path.{_≡_, _∙_}
-use mathlib.Core.List.{List}
+use mathlib.Core.Path.{_≡_, sym, ap, subst, _∙_}
+use mathlib.Core.List.{List, [], _∷_, _++_}
 use lib.Ieee.{Float}
-use lib.Dec.{ltb}
-use borrow.Author.Tests.{lt-ltb}
-use Rattle.lists.specs.Lists.{sum, below}
-use Rattle.lists.specs.Frames.{But}
-use Rattle.lists.proofs.FrameLaws.{but-then, but-widen}
-use Rattle.memory.specs.Entries.{slotAt, queued}
-use Rattle.queue.specs.Contracts.Ranks.{HeapFrom}
-use Rattle.queue.specs.Contracts.Order.{Slotted, Sifted}
+use Rattle.lists.specs.Lists.{sum, below, SameBag}
+use Rattle.lists.proofs.BelowLaws.{sum-below, sum-changed}
+use Rattle.memory.specs.declared.entries.Entry.{Entry}
+use Rattle.memory.specs.Entries.{entryIn}
+use Rattle.memory.proofs.EntryLaws.{room-only}
+use Rattle.queue.specs.Stored.{entriesIn, entryRank}
+use Rattle.queue.specs.Contracts.Ranks.{Heap}
+use Rattle.queue.specs.Contracts.Order.{filled, ranks, Holed, Sifted}
 use Rattle.queue.specs.Contracts.Queued.{Queue}
-use Rattle.queue.specs.Contracts.Changes.{Popped}
-use Rattle.queue.proofs.RootLaws.{slotted-fewer, root-least, exchanged-sifted, exchanged-heap, exchanged-sums}
-use Rattle.queue.proofs.SwapLaws.{swapped, sifted-slotted}
-use Rattle.queue.proofs.OrderLaws.{every-members, place-queued, queued-slot, sifted-sums}
-use Rattle.queue.proofs.EntryLaws.{room-but}
-use Rattle.memory.specs.Layout.{keepStampsFrom, orderFrom}
+use Rattle.queue.specs.Contracts.Changes.{Was, Popped}
+use Rattle.queue.proofs.HeapLaws.{by-same, least-at-root}
+use Rattle.queue.proofs.HoleLaws.{filled-here, filled-other, entries-sum}
 
--- a change of the order among its first n
-pub sifted-order : {v f n : ℕ} {w w' : List ℕ} → n ≤ 3 * f → Sifted v f n w w' → But (orderFrom v f) (keepStampsFrom v f) w w'
-sifted-order few sifted = but-widen (omega arith) (omega arith) (sifted .but)
+module _ {v f : ℕ} {w : List ℕ} {p q : List Float} {n : ℕ} (queue : Queue v f w p q n) (some : 0 < n) where
+  -- there is a hole on top, over a heap
+  pub top-holed : Holed v f w p q (n - 1) 0
+  top-holed = let few = queue .few in record { enough = queue .enough; few = omega arith; inside = omega arith }
 
--- every slot is listed once still
-pub sifted-once : {v f n : ℕ} {w w' : List ℕ} → n ≤ 3 * f → Sifted v f n w w' → ((g : ℕ → ℕ) → sum g (queued v f w (3 * f)) ≡ sum g (below (3 * f))) →
-    (g : ℕ → ℕ) → sum g (queued v f w' (3 * f)) ≡ sum g (below (3 * f))
-sifted-once few sifted each-once g = sifted-sums sifted few g ∙ each-once g
+  pub top-heap : Heap 1 (ranks (entryIn v f w p q)) (n - 1)
+  top-heap k positive inside low = queue .ordered k positive (omega arith) (omega arith)
 
--- the first n places hold slots, also where the order is no heap
-pub queue-slotted : {v f : ℕ} {w : List ℕ} {q : List Float} {n : ℕ} → Queue v f w q n → Slotted v f w q n
-queue-slotted {v} {f} {w} {q} {n} queue =
-    record {
-      room = queue .room;
-      costs-long = queue .costs-long;
-      few = queue .few;
-      slots-below =
-          every-members (λ s. ltb s (3 * f)) (queued v f w n) (λ s there. lt-ltb s (3 * f) (queued-slot v f w (queue .each-once) (queue .few) s there));
-    }
+  module _ {top last : Entry} {w' : List ℕ} {p' q' : List Float} (top-is : top ≡ entryIn v f w p q 0) (last-is : last ≡ entryIn v f w p q (n - 1))
+      (sifted : Sifted v f (n - 1) 0 w p q 0 last w' p' q') where
+    -- each that is left was there
+    left-was : (i : ℕ) → i < n - 1 → Was v f w p q n (entryIn v f w' p' q' i)
+    left-was i l =
+        let es = entryIn v f w p q in
+        let (j, m, same) = sifted .shuffled .from i l in
+        by-same j 0
+        (λ d. (n - 1, omega arith, same ∙ ap (filled es 0 last) d ∙ filled-here es 0 last ∙ last-is))
+        (λ d. (j, omega arith, same ∙ filled-other es 0 last j d))
 
-pub first-slotted : {v f : ℕ} {w w' : List ℕ} {q : List Float} {n m : ℕ} → Queue v f w q n → Sifted v f n w w' → m ≤ n → Slotted v f w' q m
-first-slotted queue sifted less = slotted-fewer (sifted-slotted (queue-slotted queue) sifted) less
+    -- with the one on top they are all
+    all-weigh : (g : Entry → ℕ) → sum g (entriesIn v f w p q n) ≡ g top + sum g (entriesIn v f w' p' q' (n - 1))
+    unfolding sum below
+    all-weigh g =
+        let es = entryIn v f w p q in
+        let more : n ≡ (n - 1) + 1 = omega arith in
+        let upTo = entries-sum v f w p q n g
+        ∙ ap (λ (k : ℕ). sum (λ i. g (es i)) (below k)) (more ∙ add-one (n - 1)) ∙ sum-below (λ i. g (es i)) (n - 1) in
+        let rest = entries-sum v f w' p' q' (n - 1) g ∙ sifted .shuffled .sums g in
+        by-same (n - 1) 0
+        (λ d.
+        omega (
+          arith,
+          upTo,
+          rest,
+          ap g top-is,
+          ap (λ (k : ℕ). g (es k)) d,
+          ap (λ (k : ℕ). sum (λ i. g (es i)) (below k)) d ∙ sym (ap (λ (k : ℕ). sum (λ i. g (filled es 0 last i)) (below k)) d),
+        ))
+        (λ d.
+        omega (
+          arith,
+          upTo,
+          rest,
+          ap g top-is,
+          ap g last-is,
+          ap g (filled-here es 0 last),
+          sum-changed (λ i. g (es i)) (λ i. g (filled es 0 last i)) (n - 1) 0 (omega arith) (λ i l apart. ap g (filled-other es 0 last i apart)),
+        ))
 
-module _ {v f : ℕ} {w : List ℕ} {q : List Float} {n : ℕ} (queue : Queue v f w q n) (filled : 0 < n) where
-  module _ {w' : List ℕ} (exchanged : w' ≡ swapped v f w 0 (n - 1)) where
-    top-sifted : Sifted v f n w w'
-    top-sifted = exchanged-sifted (queue-slotted queue) filled exchanged
-
-    -- what moves down stands over a heap of slots
-    pub rest-slotted : Slotted v f w' q (n - 1)
-    rest-slotted = first-slotted queue top-sifted (omega arith)
-
-    pub rest-heap : HeapFrom 1 v f w' q (n - 1)
-    rest-heap = exchanged-heap (queue-slotted queue) filled exchanged (queue .ordered)
-
-    pub popping : {w'' : List ℕ} {s : ℕ} → s ≡ slotAt v f w 0 → Sifted v f (n - 1) w' w'' → HeapFrom 0 v f w'' q (n - 1) → Popped v f w q n w'' s
-    popping {w''} {s} top sifted heap =
-        let few : n - 1 ≤ 3 * f = omega (arith, queue .few) in
+    pub popping : Popped v f w p q n w' p' q' top
+    unfolding sum
+    popping =
+        let few = queue .few in
         record {
-          but = but-then (sifted-order (queue .few) top-sifted) (sifted-order few sifted);
-          queue = record {
-            room = room-but (sifted .but) (room-but (top-sifted .but) (queue .room));
-            costs-long = queue .costs-long;
-            few = few;
-            each-once = sifted-once few sifted (sifted-once (queue .few) top-sifted (queue .each-once));
-            ordered = heap;
+          fewer = record {
+            only = sifted .only;
+            queue = record { enough = room-only (sifted .only) (queue .enough); few = omega arith; ordered = sifted .ordered };
+            bag = record { sums = all-weigh };
+            were = left-was;
           };
-          slot = rw top (queued-slot v f w (queue .each-once) (queue .few) (slotAt v f w 0) (place-queued v f w filled));
-          sums = λ g. rw top (exchanged-sums (queue-slotted queue) filled exchanged sifted g);
-          least = λ i inside. rw top (root-least v f w q n (queue .ordered) i inside);
+          was = (0, some, top-is);
+          least = λ i l.
+              let (j, m, same) = left-was i l in
+              omega (arith, ap entryRank top-is, ap entryRank same, least-at-root {r = ranks (entryIn v f w p q)} (queue .ordered) j m);
         }

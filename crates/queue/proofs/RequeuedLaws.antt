@@ -10,11 +10,12 @@ use Rattle.lists.specs.Lists.{sum, those, every, SameBag}
 use Rattle.lists.proofs.SumLaws.{sum-append, sum-those}
 use Rattle.lists.proofs.BagLaws.{bag-refl, bag-trans, bag-append}
 use Rattle.lists.proofs.EveryLaws.{every-both, every-implies}
-use Rattle.queue.specs.Stored.{StoredEntry, isOld, Requeued}
+use Rattle.memory.specs.declared.entries.Entry.{Entry}
+use Rattle.queue.specs.Stored.{isOld, Requeued}
 use Rattle.lists.proofs.PartLaws.{sum-failed, sum-passed, sum-parts}
 
 -- nothing is put in, and nothing goes
-pub requeued-none : (stamps : List ℕ) (entries : List StoredEntry) → Requeued stamps entries [] entries
+pub requeued-none : (stamps : List ℕ) (entries : List Entry) → Requeued stamps entries [] entries
 unfolding every sum
 requeued-none stamps entries = record {
   thrown = [];
@@ -25,7 +26,7 @@ requeued-none stamps entries = record {
 }
 
 -- where there was none, just the new ones are queued
-pub requeued-all : {stamps : List ℕ} {before new after : List StoredEntry} → before ≡ [] → Requeued stamps before new after → SameBag after new
+pub requeued-all : {stamps : List ℕ} {before new after : List Entry} → before ≡ [] → Requeued stamps before new after → SameBag after new
 unfolding sum
 requeued-all {before = before} {new} none one = record {
   sums = λ g.
@@ -33,7 +34,7 @@ requeued-all {before = before} {new} none one = record {
 }
 
 -- the new ones may be listed in another order
-pub requeued-as : {stamps : List ℕ} {before new new' after : List StoredEntry} → SameBag new new' → Requeued stamps before new after → Requeued stamps before new' after
+pub requeued-as : {stamps : List ℕ} {before new new' after : List Entry} → SameBag new new' → Requeued stamps before new after → Requeued stamps before new' after
 requeued-as same one = record {
   thrown = one .thrown;
   stayed = one .stayed;
@@ -43,34 +44,34 @@ requeued-as same one = record {
 }
 
 -- some are put in, and then others, while the first are current still
-module _ {stamps : List ℕ} {before new between more after : List StoredEntry} (one : Requeued stamps before new between) (two : Requeued stamps between more after)
+module _ {stamps : List ℕ} {before new between more after : List Entry} (one : Requeued stamps before new between) (two : Requeued stamps between more after)
     (current : every (λ e. not (isOld stamps e)) new ≡ true) where
   -- what weighs an old one, and what weighs a current one
-  whereOld : (StoredEntry → ℕ) → StoredEntry → ℕ
+  whereOld : (Entry → ℕ) → Entry → ℕ
   whereOld g e = cond (isOld stamps e) (g e) 0
 
-  whereNot : (StoredEntry → ℕ) → StoredEntry → ℕ
+  whereNot : (Entry → ℕ) → Entry → ℕ
   whereNot g e = cond (not (isOld stamps e)) (g e) 0
 
   -- of those that stayed at first the current ones stay, and of the old ones those that stay in the end
-  still : List StoredEntry
+  still : List Entry
   still = those (λ e. not (isOld stamps e)) (one .stayed) ++ those (isOld stamps) (two .stayed)
 
-  still-sum : (g : StoredEntry → ℕ) → sum g still ≡ sum (whereNot g) (one .stayed) + sum (whereOld g) (two .stayed)
+  still-sum : (g : Entry → ℕ) → sum g still ≡ sum (whereNot g) (one .stayed) + sum (whereOld g) (two .stayed)
   unfolding still whereOld whereNot
   still-sum g =
       sum-append g (those (λ e. not (isOld stamps e)) (one .stayed)) (those (isOld stamps) (two .stayed))
       ∙ ap₂ _+_ (sum-those g (λ e. not (isOld stamps e)) (one .stayed)) (sum-those g (isOld stamps) (two .stayed))
 
   -- between the two
-  middle : (h : StoredEntry → ℕ) → sum h (one .stayed) + sum h new ≡ sum h (two .thrown) + sum h (two .stayed)
+  middle : (h : Entry → ℕ) → sum h (one .stayed) + sum h new ≡ sum h (two .thrown) + sum h (two .stayed)
   middle h = sym (sum-append h (one .stayed) new) ∙ sym (one .are .sums h) ∙ two .were .sums h ∙ sum-append h (two .thrown) (two .stayed)
 
-  old-parts : (g : StoredEntry → ℕ) → sum (whereOld g) (one .stayed) ≡ sum g (two .thrown) + sum (whereOld g) (two .stayed)
+  old-parts : (g : Entry → ℕ) → sum (whereOld g) (one .stayed) ≡ sum g (two .thrown) + sum (whereOld g) (two .stayed)
   unfolding whereOld
   old-parts g = omega (arith, middle (whereOld g), sum-failed (isOld stamps) g new current, sum-passed (isOld stamps) g (two .thrown) (two .old))
 
-  current-parts : (g : StoredEntry → ℕ) → sum (whereNot g) (one .stayed) + sum g new ≡ sum (whereNot g) (two .stayed)
+  current-parts : (g : Entry → ℕ) → sum (whereNot g) (one .stayed) + sum g new ≡ sum (whereNot g) (two .stayed)
   unfolding whereNot
   current-parts g =
       omega (
@@ -80,7 +81,7 @@ module _ {stamps : List ℕ} {before new between more after : List StoredEntry} 
         sum-failed (λ e. not (isOld stamps e)) g (two .thrown) (every-implies (isOld stamps) (λ e. not (not (isOld stamps e))) (λ e old. rw old) (two .thrown) (two .old)),
       )
 
-  parts : (g : StoredEntry → ℕ) (xs : List StoredEntry) → sum g xs ≡ sum (whereNot g) xs + sum (whereOld g) xs
+  parts : (g : Entry → ℕ) (xs : List Entry) → sum g xs ≡ sum (whereNot g) xs + sum (whereOld g) xs
   unfolding whereOld whereNot
   parts g xs = sum-parts (isOld stamps) g xs
 

@@ -1,178 +1,194 @@
 -- Entries are taken off the top up to the first current one: what holds before each turn, and what a turn does.
 -- Assumes nothing.
 use Prim.Native.Nat.{ℕ, _+_, _*_, _-_, _≤_, _<_}
+use native.Mathlib.Nat.{le-refl}
 use native.Mathlib.Omega.{arith}
 use mathlib.Core.Path.{_≡_, refl, sym, ap, subst, _∙_}
-use mathlib.Core.List.{List, [], _∷_}
-use mathlib.Core.Bool.{Bool, true, false, not, cond}
-use lib.Dec.{eqb}
+use mathlib.Core.List.{List, [], _∷_, _++_}
+use mathlib.Core.Bool.{Bool, true, false, not, _&&_, _||_}
+use mathlib.Mathlib.Data.Bool.Basic.{and-elim-left, and-intro, or-inl, or-inr}
+use lib.Dec.{leb, ltb}
 use lib.ListN.{length}
 use lib.Ieee.{Float}
-use borrow.Author.Tests.{eqb-true}
+use borrow.Author.Tests.{le-leb, lt-ltb, ltb-true, not-false}
 use Rattle.walk.specs.declared.Pair.{Pair}
-use Rattle.lists.specs.Lists.{sum, count, every, below}
-use Rattle.lists.proofs.TestLaws.{by-test}
-use Rattle.lists.proofs.CondLaws.{cond-same}
-use Rattle.lists.proofs.SumLaws.{sum-same, sum-append}
+use Rattle.lists.specs.Lists.{sum, every, SameBag}
+use Rattle.lists.proofs.SumLaws.{sum-append, sum-length}
 use Rattle.lists.proofs.BagLaws.{bag-refl, bag-every}
-use Rattle.lists.proofs.EveryLaws.{every-head, every-cons, every-both}
-use Rattle.lists.specs.Frames.{But}
-use Rattle.lists.proofs.FrameLaws.{but-refl, but-then}
-use Rattle.memory.specs.Entries.{pairAt, slotAt, queued}
-use Rattle.queue.specs.Contracts.Ranks.{rankIn}
-use Rattle.queue.specs.State.{isCurrent, isQueued, openIn}
-use Rattle.queue.specs.Contracts.Queued.{Queue, QueueNamed, EntryNamed}
-use Rattle.queue.specs.Contracts.Changes.{Fewer, Lost, Popped, TakenOff, NoneLeft}
-use Rattle.queue.proofs.SwapLaws.{rank-kept}
-use Rattle.queue.proofs.OrderLaws.{member-of, place-queued, queued-place}
-use Rattle.queue.proofs.EntryLaws.{weighed, ifCurrent, open-length, order-moved, queue-entered}
-use Rattle.queue.proofs.LostLaws.{lost-fewer, lost-queued, lost-open, old-weigh}
-use Rattle.queue.proofs.MovedLaws.{current-same, entered-moved}
-use Rattle.memory.specs.Layout.{keepStampsFrom, orderFrom}
+use Rattle.lists.proofs.EveryLaws.{every-append, every-cons, every-tail, every-both, every-implies}
+use Rattle.lists.proofs.TestLaws.{both-true}
+use Rattle.lists.proofs.PartLaws.{every-two}
+use Rattle.memory.specs.declared.entries.Entry.{Entry}
+use Rattle.memory.specs.Entries.{entryIn}
+use Rattle.memory.proofs.EntryLaws.{only-refl, only-then}
+use Rattle.queue.specs.State.{openIn}
+use Rattle.queue.specs.Stored.{stampsOf, entriesIn, isOld, entryRank, LeastCurrent}
+use Rattle.queue.specs.Contracts.Queued.{Queue, Named, QueueNamed, isPresent}
+use Rattle.queue.specs.Contracts.Changes.{Was, Were, Fewer, Popped, TakenOff, NoneLeft}
+use Rattle.queue.proofs.PresentLaws.{present-old, stamps-only, present-only, named-were, entries-every, weighed, open-sum, fewer-open, old-weigh}
+
+-- ---- some are queued no more
+
+pub fewer-none : {v f : ℕ} {w : List ℕ} {p q : List Float} {n : ℕ} → Queue v f w p q n → Fewer v f w p q n [] w p q n
+fewer-none {v} {f} {w} {p} {q} queue = record { only = only-refl v f w p q; queue = queue; bag = bag-refl; were = λ i l. (i, l, refl) }
+
+-- what was there once some were gone was there
+pub was-before : {v f : ℕ} {w : List ℕ} {p q : List Float} {n : ℕ} {gone : List Entry} {w' : List ℕ} {p' q' : List Float} {n' : ℕ} {e : Entry} →
+    Fewer v f w p q n gone w' p' q' n' → Was v f w' p' q' n' e → Was v f w p q n e
+was-before fewer was =
+    let (j, l, same) = was in
+    let (k, m, there) = fewer .were j l in
+    (k, m, same ∙ there)
+
+pub fewer-then : {v f : ℕ} {w : List ℕ} {p q : List Float} {n : ℕ} {gone : List Entry} {w' : List ℕ} {p' q' : List Float} {n' : ℕ} {more : List Entry} {w'' : List ℕ}
+    {p'' q'' : List Float} {n'' : ℕ} → Fewer v f w p q n gone w' p' q' n' → Fewer v f w' p' q' n' more w'' p'' q'' n'' → Fewer v f w p q n (more ++ gone) w'' p'' q'' n''
+fewer-then {v} {f} {gone = gone} {w' = w'} {p'} {q'} {n'} {more} {w''} {p''} {q''} {n''} one two = record {
+  only = only-then (one .only) (two .only);
+  queue = two .queue;
+  bag = record {
+    sums = λ g.
+        omega (
+          arith,
+          one .bag .sums g,
+          sum-append g gone (entriesIn v f w' p' q' n'),
+          two .bag .sums g,
+          sum-append g more (entriesIn v f w'' p'' q'' n''),
+          sum-append g (more ++ gone) (entriesIn v f w'' p'' q'' n''),
+          sum-append g more gone,
+        );
+  };
+  were = λ i l. was-before one (two .were i l);
+}
+
+-- ---- the turns
 
 -- Of the n entries that stood in w₀ left are queued, and the others were passed over: they were old.
-pub record Taking (v f : ℕ) (w₀ : List ℕ) (q : List Float) (n : ℕ) (w : List ℕ) (left : ℕ) : Type 0 where
-  pub but : But (orderFrom v f) (keepStampsFrom v f) w₀ w
-  pub queue : Queue v f w q left
-  pub passed : List ℕ
-  pub lost : Lost v f w₀ n passed w left
-  pub old : every (λ t. not (isCurrent v f w₀ t)) passed ≡ true
+pub record Taking (v f : ℕ) (w₀ : List ℕ) (p₀ q₀ : List Float) (n : ℕ) (w : List ℕ) (p q : List Float) (left : ℕ) : Type 0 where
+  pub passed : List Entry
+  pub fewer : Fewer v f w₀ p₀ q₀ n passed w p q left
+  pub old : every (isOld (stampsOf v f w₀)) passed ≡ true
 
-pub taking-start : {v f : ℕ} {w : List ℕ} {q : List Float} {n : ℕ} → Queue v f w q n → Taking v f w q n w n
+pub taking-start : {v f : ℕ} {w : List ℕ} {p q : List Float} {n : ℕ} → Queue v f w p q n → Taking v f w p q n w p q n
 unfolding every
-taking-start queue = record { but = but-refl _ _ _; queue = queue; passed = []; lost = record { slots = bag-refl }; old = refl }
+taking-start queue = record { passed = []; fewer = fewer-none queue; old = refl }
 
 -- none is left
-pub taking-none : {v f : ℕ} {w₀ : List ℕ} {q : List Float} {n : ℕ} {w : List ℕ} {left : ℕ} → left ≡ 0 → Taking v f w₀ q n w left → NoneLeft v f w₀ q n w
-unfolding every below
-taking-none {v} {f} {w₀} {q} {n} {w} {left} none end =
-    let last : Taking v f w₀ q n w 0 = subst (λ (k : ℕ). Taking v f w₀ q n w k) none end in
-    let test : ℕ → Bool = λ t. not (isCurrent v f w₀ t) in
-    record { but = last .but; queue = last .queue; old = bag-every (last .lost .slots) test ∙ every-both test (last .passed) [] (last .old) refl }
+pub taking-none : {v f : ℕ} {w₀ : List ℕ} {p₀ q₀ : List Float} {n : ℕ} {w : List ℕ} {p q : List Float} {left : ℕ} → left ≡ 0 → Taking v f w₀ p₀ q₀ n w p q left →
+    NoneLeft v f w₀ p₀ q₀ n w p q
+taking-none {v} {f} {w₀} {p₀} {q₀} {n} {w} {p} {q} {left} none end =
+    let last : Taking v f w₀ p₀ q₀ n w p q 0 = subst (λ (k : ℕ). Taking v f w₀ p₀ q₀ n w p q k) none end in
+    let test : Entry → Bool = isOld (stampsOf v f w₀) in
+    record {
+      only = last .fewer .only;
+      queue = last .fewer .queue;
+      old = bag-every (last .fewer .bag) test ∙ every-both test (last .passed) (entriesIn v f w p q 0) (last .old) (entries-every v f w p q 0 test (λ i l. absurd (omega arith)));
+    }
 
--- what was current is queued still
-module _ {v f : ℕ} {w₀ : List ℕ} {q : List Float} {n : ℕ} {w : List ℕ} {left : ℕ} (before : Taking v f w₀ q n w left) where
-  currents : (g : ℕ → ℕ) → sum (ifCurrent v f w₀ g) (queued v f w left) ≡ sum (ifCurrent v f w₀ g) (queued v f w₀ n)
-  currents g =
-      let weight = ifCurrent v f w₀ g in
-      omega (
-        arith,
-        before .lost .slots .sums weight,
-        sum-append weight (before .passed) (queued v f w left),
-        old-weigh v f w₀ g (before .passed) (before .old),
-      )
+module _ {v f : ℕ} {w₀ : List ℕ} {p₀ q₀ : List Float} {n : ℕ} {w : List ℕ} {p q : List Float} {left : ℕ} {w' : List ℕ} {p' q' : List Float} {top : Entry}
+    (named : QueueNamed v f w₀ p₀ q₀ n) (before : Taking v f w₀ p₀ q₀ n w p q left) (popped : Popped v f w p q left w' p' q' top) where
+  popped-was : Was v f w₀ p₀ q₀ n top
+  popped-was = was-before (before .fewer) (popped .was)
 
-  current-queued : (x : ℕ) → isCurrent v f w₀ x ≡ true → isQueued v f w₀ n x ≡ true → isQueued v f w left x ≡ true
-  current-queued x current there =
-      let one : ℕ → ℕ = λ y. cond (eqb x y) 1 0 in
-      let same : (y : ℕ) → ifCurrent v f w₀ one y ≡ one y =
-      λ y. by-test (eqb x y) (λ e. rw (e, ← eqb-true x y e, current)) (λ e. rw e (cond-same (isCurrent v f w₀ y) 0)) in
-      let counts : count (eqb x) (queued v f w left) ≡ count (eqb x) (queued v f w₀ n) =
-      sym (sum-same (ifCurrent v f w₀ one) one same (queued v f w left))
-      ∙ currents one
-      ∙ sum-same (ifCurrent v f w₀ one) one same (queued v f w₀ n) in
-      member-of x (queued v f w₀ n) (queued v f w left) (omega arith) there
+  pub popped-named : Named v top
+  popped-named =
+      let (j, l, same) = popped-was in
+      subst (λ (e : Entry). Named v e) (sym same) (named j l)
 
-module _ {v f : ℕ} {w₀ : List ℕ} {q : List Float} {n : ℕ} {w : List ℕ} {left : ℕ} {w' : List ℕ} {s : ℕ}
-    (start : Queue v f w₀ q n) (named : QueueNamed v f w₀ n) (before : Taking v f w₀ q n w left) (popped : Popped v f w q left w' s) where
-  but-popped : But (orderFrom v f) (keepStampsFrom v f) w₀ w'
-  but-popped = but-then (before .but) (popped .but)
-
-  -- what is taken off, what was passed over and what is left are what stood there
-  lost-popped : Lost v f w₀ n (s ∷ before .passed) w' (left - 1)
-  unfolding sum
-  lost-popped = record {
-    slots = record {
-      sums = λ g.
-          omega (
-            arith,
-            before .lost .slots .sums g,
-            sum-append g (before .passed) (queued v f w left),
-            popped .sums g,
-            sum-append g (before .passed) (queued v f w' (left - 1)),
-          );
-    };
-  }
-
-  was-queued : isQueued v f w₀ n s ≡ true
-  was-queued = every-head (isQueued v f w₀ n) s (before .passed) (lost-queued lost-popped)
-
-  pub popped-entered : EntryNamed v f w₀ s
-  popped-entered = queue-entered start named s was-queued
-
-  pub popped-kept : EntryNamed v f w' s
-  popped-kept = entered-moved (order-moved v f but-popped) popped-entered
+  popped-fewer : Fewer v f w₀ p₀ q₀ n (top ∷ before .passed) w' p' q' (left - 1)
+  popped-fewer = fewer-then (before .fewer) (popped .fewer)
 
   -- whether it is current is as before
-  pub popped-current : {b : Bool} → b ≡ isCurrent v f w' s → isCurrent v f w₀ s ≡ b
-  popped-current e = sym (e ∙ current-same (order-moved v f but-popped) popped-entered)
+  pub popped-told : {b : Bool} → b ≡ isPresent v f w' top → isOld (stampsOf v f w₀) top ≡ not b
+  popped-told told = present-old v f w₀ top popped-named ∙ ap not (sym (told ∙ present-only (popped-fewer .only) top popped-named))
 
   -- it is old, and goes
-  pub taking-old : isCurrent v f w₀ s ≡ false → Taking v f w₀ q n w' (left - 1)
-  taking-old old =
-      record {
-        but = but-popped;
-        queue = popped .queue;
-        passed = s ∷ before .passed;
-        lost = lost-popped;
-        old = every-cons (λ t. not (isCurrent v f w₀ t)) s (before .passed) (rw old) (before .old);
-      }
+  pub taking-old : {b : Bool} → b ≡ isPresent v f w' top → b ≡ false → Taking v f w₀ p₀ q₀ n w' p' q' (left - 1)
+  taking-old told fails = record {
+    passed = top ∷ before .passed;
+    fewer = popped-fewer;
+    old = every-cons (isOld (stampsOf v f w₀)) top (before .passed) (popped-told told ∙ ap not fails) (before .old);
+  }
 
-  popped-least : (i : ℕ) → i < n → isCurrent v f w₀ (slotAt v f w₀ i) ≡ true → rankIn v f w₀ q s ≤ rankIn v f w₀ q (slotAt v f w₀ i)
-  popped-least i inside current =
-      let x : ℕ = slotAt v f w₀ i in
-      let there = place-queued v f w₀ inside in
-      let (j, within, same) = queued-place v f w left x (current-queued before x current there) in
-      omega (
-        arith,
-        popped .least j within,
-        ap (rankIn v f w q) same,
-        rank-kept v f q (before .but) s (popped .slot),
-        rank-kept v f q (before .but) x (queue-entered start named x there .slot),
-      )
+  -- no current entry comes before it
+  popped-least : every (λ e. isOld (stampsOf v f w₀) e || leb (entryRank top) (entryRank e)) (entriesIn v f w₀ p₀ q₀ n) ≡ true
+  popped-least =
+      let old : Entry → Bool = isOld (stampsOf v f w₀) in
+      let after : Entry → Bool = λ e. leb (entryRank top) (entryRank e) in
+      let either : Entry → Bool = λ e. old e || after e in
+      bag-every (popped-fewer .bag) either
+      ∙ every-both either (top ∷ before .passed) (entriesIn v f w' p' q' (left - 1))
+      (every-cons either top (before .passed) (or-inr (old top) (after top) (le-leb (entryRank top) (entryRank top) (le-refl (entryRank top))))
+      (every-implies old either (λ e passes. or-inl (old e) (after e) passes) (before .passed) (before .old)))
+      (entries-every v f w' p' q' (left - 1) either
+      (λ i l. let e = entryIn v f w' p' q' i in or-inr (old e) (after e) (le-leb (entryRank top) (entryRank e) (popped .least i l))))
 
   -- it is current, and is what was looked for
-  pub taking-found : isCurrent v f w₀ s ≡ true → TakenOff v f w₀ q n w' s (left - 1)
-  taking-found current =
-      record {
-        but = but-popped;
-        queue = popped .queue;
-        passed = before .passed;
-        lost = lost-popped;
-        old = before .old;
-        current = current;
-        least = popped-least;
-      }
+  pub taking-found : {b : Bool} → b ≡ isPresent v f w' top → b ≡ true → TakenOff v f w₀ p₀ q₀ n w' p' q' top (left - 1)
+  taking-found told passes = record {
+    passed = before .passed;
+    fewer = popped-fewer;
+    was = popped-was;
+    old = before .old;
+    least = record { current = popped-told told ∙ ap not passes; least = popped-least };
+  }
 
 -- ---- what that says of the pairs
 
-module _ {v f : ℕ} {w : List ℕ} {q : List Float} {n : ℕ} {w' : List ℕ} {s left : ℕ} (queue : Queue v f w q n) (named : QueueNamed v f w n)
-    (taken : TakenOff v f w q n w' s left) where
-  -- what was taken off was queued, with a pair
-  pub taken-queued : isQueued v f w n s ≡ true
-  taken-queued = every-head (isQueued v f w n) s (taken .passed) (lost-queued (taken .lost))
+-- whether an entry's pair is of points below v
+abbrev isNamed : (v : ℕ) (e : Entry) → Bool
+isNamed v e = ltb (e .pair .keep) v && ltb (e .pair .remove) v
 
-  pub taken-slot : s < 3 * f
-  taken-slot = queue-entered queue named s taken-queued .slot
+all-named : (v f : ℕ) (w : List ℕ) (p q : List Float) (n : ℕ) → QueueNamed v f w p q n → every (isNamed v) (entriesIn v f w p q n) ≡ true
+all-named v f w p q n named =
+    entries-every v f w p q n (isNamed v)
+    (λ i l. and-intro (lt-ltb (entryIn v f w p q i .pair .keep) v (named i l .0)) (lt-ltb (entryIn v f w p q i .pair .remove) v (named i l .1)))
 
-  pub taken-fewer : Fewer v f w n w' left
-  taken-fewer = lost-fewer (taken .lost)
+-- an old entry isn't current
+named-absent : (v f : ℕ) (w : List ℕ) (e : Entry) → isNamed v e ≡ true → isOld (stampsOf v f w) e ≡ true → not (isPresent v f w e) ≡ true
+named-absent v f w e both old =
+    let ends = both-true (ltb (e .pair .keep) v) (ltb (e .pair .remove) v) both in
+    sym (present-old v f w e (ltb-true (e .pair .keep) v (ends .0), ltb-true (e .pair .remove) v (ends .1))) ∙ old
+
+module _ {v f : ℕ} {w : List ℕ} {p q : List Float} {n : ℕ} {gone : List Entry} {w' : List ℕ} {p' q' : List Float} {n' : ℕ} (fewer : Fewer v f w p q n gone w' p' q' n')
+    (named : QueueNamed v f w p q n) where
+  gone-named : every (isNamed v) gone ≡ true
+  gone-named =
+      and-elim-left (every (isNamed v) gone) (every (isNamed v) (entriesIn v f w' p' q' n'))
+      (sym (every-append (isNamed v) gone (entriesIn v f w' p' q' n'))
+      ∙ sym (bag-every (fewer .bag) (isNamed v))
+      ∙ all-named v f w p q n named)
+
+  -- where those that are gone were old, the open pairs stay
+  pub old-gone-open : every (isOld (stampsOf v f w)) gone ≡ true → (g : Pair → ℕ) → sum g (openIn v f w' n') ≡ sum g (openIn v f w n)
+  old-gone-open old g =
+      let absent = every-two (isNamed v) (isOld (stampsOf v f w)) (λ e. not (isPresent v f w e)) (named-absent v f w) gone gone-named old in
+      omega (arith, fewer-open fewer named g, old-weigh v f w g gone absent)
+
+module _ {v f : ℕ} {w : List ℕ} {p q : List Float} {n : ℕ} {w' : List ℕ} {p' q' : List Float} {top : Entry} {left : ℕ} (named : QueueNamed v f w p q n)
+    (taken : TakenOff v f w p q n w' p' q' top left) where
+  pub taken-named : Named v top
+  taken-named =
+      let (j, l, same) = taken .was in
+      subst (λ (e : Entry). Named v e) (sym same) (named j l)
+
+  pub taken-present : isPresent v f w top ≡ true
+  taken-present = not-false (isPresent v f w top) (sym (present-old v f w top taken-named) ∙ taken .least .current)
 
   -- the open pairs are fewer by its pair
-  pub taken-sums : (g : Pair → ℕ) → sum g (openIn v f w' left) + g (pairAt v f w s) ≡ sum g (openIn v f w n)
+  pub taken-sums : (g : Pair → ℕ) → sum g (openIn v f w' left) + g (top .pair) ≡ sum g (openIn v f w n)
   unfolding sum
   taken-sums g =
-      let itself : weighed v f w g s ≡ g (pairAt v f w s) = rw (taken .current) in
-      omega (
-        arith,
-        itself,
-        old-weigh v f w (λ t. g (pairAt v f w t)) (taken .passed) (taken .old),
-        lost-open (taken .lost) queue named (taken .but) g,
-      )
+      let itself : weighed v f w g top ≡ g (top .pair) = rw taken-present in
+      let absent = every-two (isNamed v) (isOld (stampsOf v f w)) (λ e. not (isPresent v f w e)) (named-absent v f w) (taken .passed)
+      (every-tail (isNamed v) top (taken .passed) (gone-named (taken .fewer) named)) (taken .old) in
+      omega (arith, itself, fewer-open (taken .fewer) named g, old-weigh v f w g (taken .passed) absent)
 
 -- where no entry was current, no pair was open
-pub none-open : {v f : ℕ} {w : List ℕ} {q : List Float} {n : ℕ} {w' : List ℕ} → NoneLeft v f w q n w' → openIn v f w n ≡ []
-none-open {v} {f} {w} {q} {n} none = no-more (openIn v f w n) (open-length v f w n ∙ old-weigh v f w (λ t. 1) (queued v f w n) (none .old))
+pub none-open : {v f : ℕ} {w : List ℕ} {p q : List Float} {n : ℕ} {w' : List ℕ} {p' q' : List Float} → QueueNamed v f w p q n → NoneLeft v f w p q n w' p' q' → openIn v f w n ≡ []
+none-open {v} {f} {w} {p} {q} {n} named none = no-more (openIn v f w n)
+    (sym (sum-length (openIn v f w n)) ∙ open-sum v f w p q n (λ x. 1)
+    ∙ old-weigh v f w (λ x. 1) (entriesIn v f w p q n)
+    (every-two (isNamed v) (isOld (stampsOf v f w)) (λ e. not (isPresent v f w e)) (named-absent v f w) (entriesIn v f w p q n) (all-named v f w p q n named) (none .old)))
   where
     no-more : (ps : List Pair) → length ps ≡ 0 → ps ≡ []
     no-more [] e = refl

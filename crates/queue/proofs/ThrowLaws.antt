@@ -3,153 +3,214 @@
 use Prim.Native.Nat.{ℕ, _+_, _*_, _≤_, _<_}
 use native.Mathlib.Omega.{arith}
 use mathlib.Core.Path.{_≡_, refl, sym, ap, ap₂, subst, _∙_}
-use mathlib.Core.List.{List, []}
-use mathlib.Core.Bool.{Bool, true, false, not, cond}
+use mathlib.Core.List.{List, [], _∷_, _++_}
+use mathlib.Core.Bool.{Bool, true, false, not, _||_, cond}
+use mathlib.Mathlib.Data.Bool.Basic.{or-inl}
+use lib.Dec.{leb}
 use lib.Ieee.{Float}
-use lib.ListN.{length, length-map}
-use Rattle.lists.specs.Lists.{sum, those, every, below}
-use Rattle.lists.proofs.SumLaws.{sum-those}
-use Rattle.lists.proofs.BagLaws.{bag-refl, bag-sym, bag-trans, bag-append, bag-length}
-use Rattle.lists.proofs.EveryLaws.{every-passed}
-use Rattle.memory.specs.Memory.{Room}
-use Rattle.lists.specs.Frames.{But}
-use Rattle.lists.proofs.FrameLaws.{but-refl, but-then}
-use Rattle.memory.specs.Entries.{pairAt, slotAt, queued}
-use Rattle.queue.specs.Contracts.Ranks.{HeapFrom}
-use Rattle.queue.specs.Contracts.Order.{Slotted, Sifted}
-use Rattle.queue.specs.State.{isCurrent, openIn}
-use Rattle.queue.specs.Contracts.Queued.{Queue, EntryNamed}
-use Rattle.queue.specs.Contracts.Changes.{CurrentFirst, ThrownOut}
-use Rattle.queue.specs.Contracts.Pushing.{RoomMade}
+use lib.ListN.{length}
+use Rattle.lists.specs.Lists.{those, every, below}
+use Rattle.lists.proofs.SumLaws.{sum-length}
+use Rattle.lists.proofs.BagLaws.{bag-refl, bag-sym, bag-trans, bag-append, bag-length, bag-every}
+use Rattle.lists.proofs.BelowLaws.{sum-same-below}
+use Rattle.lists.proofs.EveryLaws.{every-both, every-implies, every-passed, length-those, those-next}
 use Rattle.lists.proofs.PartLaws.{bag-parts}
-use Rattle.queue.proofs.SwapLaws.{swapped, swapped-slots, swapped-sifted, sifted-none, sifted-then}
-use Rattle.queue.proofs.OrderLaws.{queued-length, queued-agree}
-use Rattle.queue.proofs.RootLaws.{queued-next}
-use Rattle.queue.proofs.EntryLaws.{ifCurrent, order-moved, room-but}
-use Rattle.queue.proofs.MovedLaws.{current-same, entered-moved}
-use Rattle.queue.proofs.PopLaws.{sifted-order, sifted-once, first-slotted}
-use Rattle.memory.specs.Layout.{keepStampsFrom, orderFrom}
+use Rattle.memory.specs.declared.entries.Entry.{Entry}
+use Rattle.memory.specs.Entries.{entryIn, EntryRoom, EntriesOnly, EntrySet}
+use Rattle.memory.proofs.EntryLaws.{only-refl, only-then, room-only}
+use Rattle.queue.specs.State.{openIn}
+use Rattle.queue.specs.Stored.{stampsOf, entriesIn, isOld, entryRank}
+use Rattle.queue.specs.Contracts.Order.{Settled}
+use Rattle.queue.specs.Contracts.Queued.{Queue, Named, QueueNamed, isPresent}
+use Rattle.queue.specs.Contracts.Changes.{Was, Were, Fewer, CurrentFirst, ThrownOut, RoomMade, TakenOff, NoneLeft, TookCurrent}
+use Rattle.queue.specs.declared.Taken.{Taken}
+use Rattle.queue.specs.declared.Taken.the-variants.{Found, Empty}
+use Rattle.queue.proofs.HeapLaws.{by-same}
+use Rattle.queue.proofs.HoleLaws.{entries-sum, shuffled-bag}
+use Rattle.queue.proofs.PresentLaws.{present-old, stamps-only, present-only, named-were, entries-length, entries-more, entries-same, weighed, open-sum}
+use Rattle.queue.proofs.TakeLaws.{fewer-none, fewer-then, was-before}
+
+-- the test of what stays
+abbrev pub stays : (v f : ℕ) (w : List ℕ) → Entry → Bool
+stays v f w e = not (isOld (stampsOf v f w) e)
+
+twice : (b : Bool) → not (not b) ≡ b
+twice true = refl
+twice false = refl
+
+stays-present : (v f : ℕ) (w : List ℕ) (e : Entry) → Named v e → stays v f w e ≡ isPresent v f w e
+stays-present v f w e named = ap not (present-old v f w e named) ∙ twice (isPresent v f w e)
 
 -- ---- the pass
 
--- The first i entries are looked at, and the kept ones that were current come first. Those to come are as they were.
-pub record Gathering (v f : ℕ) (w₀ : List ℕ) (n : ℕ) (w : List ℕ) (kept i : ℕ) : Type 0 where
+-- The first i entries are looked at, and the kept ones that were current come first, in their order. Those to come are as they were.
+pub record Gathering (v f : ℕ) (w₀ : List ℕ) (p₀ q₀ : List Float) (n : ℕ) (w : List ℕ) (p q : List Float) (kept i : ℕ) : Type 0 where
   pub few : kept ≤ i
-  pub sifted : Sifted v f n w₀ w
-  pub ahead : (j : ℕ) → i ≤ j → j < n → slotAt v f w j ≡ slotAt v f w₀ j
-  pub done : (g : ℕ → ℕ) → sum g (queued v f w kept) ≡ sum (ifCurrent v f w₀ g) (queued v f w₀ i)
+  pub only : EntriesOnly v f w₀ p₀ q₀ w p q
+  pub ahead : (j : ℕ) → i ≤ j → j < n → entryIn v f w p q j ≡ entryIn v f w₀ p₀ q₀ j
+  pub done : entriesIn v f w p q kept ≡ those (stays v f w₀) (entriesIn v f w₀ p₀ q₀ i)
+  pub were : Were v f w₀ p₀ q₀ n w p q kept
 
-pub gathering-none : (v f : ℕ) (w : List ℕ) (n : ℕ) → Gathering v f w n w 0 0
-unfolding sum below
-gathering-none v f w n = record { few = omega arith; sifted = sifted-none v f n w; ahead = λ j l m. refl; done = λ g. refl }
+pub gathering-none : (v f : ℕ) (w : List ℕ) (p q : List Float) (n : ℕ) → Gathering v f w p q n w p q 0 0
+unfolding entriesIn below those
+gathering-none v f w p q n = record {
+  few = omega arith;
+  only = only-refl v f w p q;
+  ahead = λ j l m. refl;
+  done = refl;
+  were = λ i l. absurd (omega arith);
+}
 
-pub gathering-all : {v f : ℕ} {w₀ : List ℕ} {n : ℕ} {w : List ℕ} {kept i : ℕ} → i ≡ n → Gathering v f w₀ n w kept i → CurrentFirst v f w₀ n w kept
-gathering-all {v} {f} {w₀} {n} {w} {kept} e end =
-    let last : Gathering v f w₀ n w kept n = subst (λ (k : ℕ). Gathering v f w₀ n w kept k) e end in
-    record {
-      sifted = last .sifted;
-      few = last .few;
-      current = record { sums = λ g. last .done g ∙ sym (sum-those g (isCurrent v f w₀) (queued v f w₀ n)) };
-    }
+module _ {v f : ℕ} {w₀ : List ℕ} {p₀ q₀ : List Float} {n : ℕ} {w : List ℕ} {p q : List Float} {kept i : ℕ} {e : Entry}
+    (named : QueueNamed v f w₀ p₀ q₀ n) (inside : i < n) (before : Gathering v f w₀ p₀ q₀ n w p q kept i) (read : e ≡ entryIn v f w p q i) where
+  -- it is the one that stood there
+  looked : entryIn v f w₀ p₀ q₀ i ≡ e
+  looked = sym (read ∙ before .ahead i (omega arith) inside)
 
-module _ {v f : ℕ} {w₀ : List ℕ} {n : ℕ} {w : List ℕ} {kept i : ℕ} (few : n ≤ 3 * f) (inside : i < n)
-    (entered : (j : ℕ) → j < n → EntryNamed v f w₀ (slotAt v f w₀ j)) (before : Gathering v f w₀ n w kept i) {s : ℕ} (here : s ≡ slotAt v f w i) where
-  -- the entry that a turn looks at
-  same-slot : s ≡ slotAt v f w₀ i
-  same-slot = here ∙ before .ahead i (omega arith) inside
+  pub looked-named : Named v e
+  looked-named = subst (λ (x : Entry). Named v x) looked (named i inside)
 
-  looked-entered : EntryNamed v f w₀ s
-  looked-entered = subst (λ (x : ℕ). EntryNamed v f w₀ x) (sym same-slot) (entered i inside)
+  looked-stays : {b : Bool} → b ≡ isPresent v f w e → stays v f w₀ e ≡ b
+  looked-stays told = stays-present v f w₀ e looked-named ∙ sym (told ∙ present-only (before .only) e looked-named)
 
-  pub turn-entered : EntryNamed v f w s
-  turn-entered = entered-moved (order-moved v f (sifted-order few (before .sifted))) looked-entered
-
-  looked-current : {b : Bool} → b ≡ isCurrent v f w s → isCurrent v f w₀ s ≡ b
-  looked-current e = sym (e ∙ current-same (order-moved v f (sifted-order few (before .sifted))) looked-entered)
-
-  -- one more is looked at
-  looked : {b : Bool} → isCurrent v f w₀ s ≡ b → (g : ℕ → ℕ) →
-      sum g (queued v f w kept) + cond b (g s) 0 ≡ sum (ifCurrent v f w₀ g) (queued v f w₀ (i + 1))
-  looked {b} e g =
-      let weight : cond b (g s) 0 ≡ ifCurrent v f w₀ g (slotAt v f w₀ i) = rw (← e) (ap (ifCurrent v f w₀ g) same-slot) in
-      ap₂ _+_ (before .done g) weight
-      ∙ sym (queued-next v f w₀ (ifCurrent v f w₀ g) i)
+  those-looked : {b : Bool} → b ≡ isPresent v f w e → those (stays v f w₀) (entriesIn v f w₀ p₀ q₀ (i + 1)) ≡ those (stays v f w₀) (entriesIn v f w₀ p₀ q₀ i) ++ cond b (e ∷ []) []
+  those-looked told =
+      ap (those (stays v f w₀)) (entries-more v f w₀ p₀ q₀ i) ∙ those-next (stays v f w₀) (entriesIn v f w₀ p₀ q₀ i) looked (looked-stays told)
 
   -- it is current, and comes to the others
-  pub gathering-kept : {b : Bool} {w' : List ℕ} → Room v f w → b ≡ true → b ≡ isCurrent v f w s → w' ≡ swapped v f w i kept →
-      Gathering v f w₀ n w' (kept + 1) (i + 1)
-  gathering-kept {b} {w'} room passes told e =
-      let there = swapped-slots room n i kept few inside (omega arith) in
-      let more : slotAt v f w' kept ≡ s = rw e (there .second ∙ sym here) in
+  pub gathering-kept : {b : Bool} {w' : List ℕ} {p' q' : List Float} → b ≡ true → b ≡ isPresent v f w e → EntrySet v f w p q kept e w' p' q' →
+      Gathering v f w₀ p₀ q₀ n w' p' q' (kept + 1) (i + 1)
+  gathering-kept {b} {w'} {p'} {q'} passes told written =
+      let few = before .few in
       record {
         few = omega arith;
-        sifted = sifted-then (before .sifted) (swapped-sifted room n i kept few inside (omega arith) e);
-        ahead = λ j l m. rw e (there .other j m (omega arith) (omega arith) ∙ before .ahead j (omega arith) m);
-        done = λ g.
-            queued-next v f w' g kept
-            ∙ ap₂ _+_
-            (queued-agree v f g w w' kept (λ j l. rw e (there .other j (omega arith) (omega arith) (omega arith))))
-            (ap g more)
-            ∙ looked (looked-current told ∙ passes) g;
+        only = only-then (before .only) (written .only);
+        ahead = λ j l m. written .other j (omega arith) ∙ before .ahead j (omega arith) m;
+        done =
+            entries-more v f w' p' q' kept
+            ∙ ap₂ (λ (es : List Entry) (x : Entry). es ++ (x ∷ []))
+            (entries-same v f w p q w' p' q' kept (λ j l. written .other j (omega arith)) ∙ before .done) (written .here)
+            ∙ sym (those-looked told ∙ ap (λ (c : Bool). those (stays v f w₀) (entriesIn v f w₀ p₀ q₀ i) ++ cond c (e ∷ []) []) passes);
+        were = λ j l.
+            by-same j kept
+            (λ d. (i, inside, ap (entryIn v f w' p' q') d ∙ written .here ∙ sym looked))
+            (λ d.
+            let low : j < kept = omega arith in
+            let (k, m, same) = before .were j low in
+            (k, m, written .other j d ∙ same));
       }
 
   -- it is old, and stays behind
-  pub gathering-old : {b : Bool} → b ≡ false → b ≡ isCurrent v f w s → Gathering v f w₀ n w kept (i + 1)
-  gathering-old {b} fails told =
-      record {
-        few = omega arith;
-        sifted = before .sifted;
-        ahead = λ j l m. before .ahead j (omega arith) m;
-        done = λ g. omega (arith, looked (looked-current told ∙ fails) g);
-      }
+  pub gathering-old : {b : Bool} → b ≡ false → b ≡ isPresent v f w e → Gathering v f w₀ p₀ q₀ n w p q kept (i + 1)
+  gathering-old {b} fails told = record {
+    few = omega (arith, before .few);
+    only = before .only;
+    ahead = λ j l m. before .ahead j (omega arith) m;
+    done = before .done ∙ sym (append-none _) ∙ sym (those-looked told ∙ ap (λ (c : Bool). those (stays v f w₀) (entriesIn v f w₀ p₀ q₀ i) ++ cond c (e ∷ []) []) fails);
+    were = before .were;
+  }
+    where
+      append-none : (es : List Entry) → es ++ [] ≡ es
+      append-none [] = refl
+      append-none (x ∷ es) = ap (λ (rest : List Entry). x ∷ rest) (append-none es)
+
+pub gathering-all : {v f : ℕ} {w₀ : List ℕ} {p₀ q₀ : List Float} {n : ℕ} {w : List ℕ} {p q : List Float} {kept i : ℕ} → i ≡ n → Gathering v f w₀ p₀ q₀ n w p q kept i →
+    CurrentFirst v f w₀ p₀ q₀ n w p q kept
+gathering-all all end =
+    let few = end .few in
+    record { only = end .only; few = omega arith; current = rw all at (end .done); were = end .were }
 
 -- ---- what is left
 
-module _ {v f : ℕ} {w : List ℕ} {q : List Float} {n : ℕ} {w' : List ℕ} {r : ℕ} (queue : Queue v f w q n) (first : CurrentFirst v f w n w' r) where
-  pub kept-slotted : Slotted v f w' q r
-  kept-slotted = first-slotted queue (first .sifted) (first .few)
+module _ {v f : ℕ} {w : List ℕ} {p q : List Float} {n : ℕ} {w' : List ℕ} {p' q' : List Float} {r : ℕ} (queue : Queue v f w p q n) (first : CurrentFirst v f w p q n w' p' q' r) where
+  pub kept-room : EntryRoom v f w' p' q' × (r ≤ 3 * f)
+  kept-room = (room-only (first .only) (queue .enough), omega (arith, first .few, queue .few))
 
-  pub throwing : {w'' : List ℕ} → Sifted v f r w' w'' → HeapFrom 0 v f w'' q r → ThrownOut v f w q n w'' r
-  throwing {w''} settled heap =
-      let few : r ≤ 3 * f = omega (arith, first .few, queue .few) in
-      let but : But (orderFrom v f) (keepStampsFrom v f) w w'' = but-then (sifted-order (queue .few) (first .sifted)) (sifted-order few settled) in
-      record {
-        but = but;
-        queue = record {
-          room = room-but but (queue .room);
-          costs-long = queue .costs-long;
-          few = few;
-          each-once = sifted-once few settled (sifted-once (queue .few) (first .sifted) (queue .each-once));
-          ordered = heap;
-        };
-        current = bag-trans (record { sums = settled .sums }) (first .current);
-      }
+  pub throwing : {w'' : List ℕ} {p'' q'' : List Float} → Settled v f r w' p' q' w'' p'' q'' → ThrownOut v f w p q n w'' p'' q'' r
+  throwing {w''} {p''} {q''} settled = record {
+    only = only-then (first .only) (settled .only);
+    queue = record { enough = room-only (settled .only) (kept-room .0); few = kept-room .1; ordered = settled .ordered };
+    current = rw (first .current) at (shuffled-bag v f w' p' q' w'' p'' q'' (settled .shuffled));
+    were = λ i l.
+        let (j, m, same) = settled .shuffled .from i l in
+        let (k, o, there) = first .were j m in
+        (k, o, same ∙ there);
+  }
 
 -- ---- what that says of the others
 
-module _ {v f : ℕ} {w : List ℕ} {q : List Float} {n : ℕ} {w' : List ℕ} {n' : ℕ} (out : ThrownOut v f w q n w' n') where
-  -- as many stay as pairs are open
-  pub thrown-counted : n' ≡ length (openIn v f w n)
-  unfolding openIn
-  thrown-counted =
-      sym (queued-length v f w' n') ∙ bag-length (out .current) ∙ sym (length-map (those (isCurrent v f w) (queued v f w n)) (pairAt v f w))
+module _ {v f : ℕ} {w : List ℕ} {p q : List Float} {n : ℕ} {w' : List ℕ} {p' q' : List Float} {n' : ℕ} (out : ThrownOut v f w p q n w' p' q' n') where
+  -- those that don't stay are gone, and were old
+  abbrev pub thrown : List Entry
+  thrown = those (λ e. not (stays v f w e)) (entriesIn v f w p q n)
 
-  -- so where fewer are open than there are places, there is room
-  pub thrown-room : length (openIn v f w n) < 3 * f → RoomMade v f w q n w' n'
-  thrown-room few = record {
-    but = out .but;
+  pub thrown-fewer : Fewer v f w p q n thrown w' p' q' n'
+  thrown-fewer = record {
+    only = out .only;
     queue = out .queue;
-    thrown = those (λ t. not (isCurrent v f w t)) (queued v f w n);
-    lost = record {
-      slots =
-          bag-trans (bag-parts (isCurrent v f w) (queued v f w n))
-          (bag-append {xs = those (λ t. not (isCurrent v f w t)) (queued v f w n)} bag-refl (bag-sym (out .current)));
-    };
-    old = every-passed (λ t. not (isCurrent v f w t)) (λ t e. e) (queued v f w n);
-    free = omega (arith, thrown-counted);
+    bag =
+        bag-trans (bag-parts (stays v f w) (entriesIn v f w p q n))
+        (bag-append {xs = those (λ e. not (stays v f w e)) (entriesIn v f w p q n)} bag-refl (bag-sym (out .current)));
+    were = out .were;
   }
 
+  pub thrown-old : every (isOld (stampsOf v f w)) thrown ≡ true
+  thrown-old = every-passed (λ e. not (stays v f w e)) (λ e o. sym (twice (isOld (stampsOf v f w) e)) ∙ o) (entriesIn v f w p q n)
+
+  module _ (named : QueueNamed v f w p q n) where
+    -- as many stay as pairs are open
+    pub thrown-counted : n' ≡ length (openIn v f w n)
+    thrown-counted =
+        let es = entriesIn v f w p q n in
+        sym (entries-length v f w' p' q' n')
+        ∙ bag-length (out .current)
+        ∙ length-those (stays v f w) es
+        ∙ entries-sum v f w p q n (λ e. cond (stays v f w e) 1 0)
+        ∙ sum-same-below _ _ n (λ i l. ap (λ (b : Bool). cond b 1 0) (stays-present v f w (entryIn v f w p q i) (named i l)))
+        ∙ sym (entries-sum v f w p q n (weighed v f w (λ x. 1)))
+        ∙ sym (open-sum v f w p q n (λ x. 1))
+        ∙ sum-length (openIn v f w n)
+
+    -- so where fewer are open than there are places, there is room
+    pub thrown-room : length (openIn v f w n) < 3 * f → RoomMade v f w p q n w' p' q' n'
+    thrown-room few = record { thrown = thrown; fewer = thrown-fewer; old = thrown-old; free = omega (arith, thrown-counted) }
+
 -- where a place is free nothing is thrown out
-pub room-already : {v f : ℕ} {w : List ℕ} {q : List Float} {n : ℕ} → Queue v f w q n → n < 3 * f → RoomMade v f w q n w n
+pub room-already : {v f : ℕ} {w : List ℕ} {p q : List Float} {n : ℕ} → Queue v f w p q n → n < 3 * f → RoomMade v f w p q n w p q n
 unfolding every
-room-already queue few = record { but = but-refl _ _ _; queue = queue; thrown = []; lost = record { slots = bag-refl }; old = refl; free = few }
+room-already queue few = record { thrown = []; fewer = fewer-none queue; old = refl; free = few }
+
+-- ---- old ones are thrown out, and then the first current one is taken off
+
+took-then : {v f : ℕ} {w : List ℕ} {p q : List Float} {n : ℕ} {gone : List Entry} {w' : List ℕ} {p' q' : List Float} {n' : ℕ} (w'' : List ℕ) (p'' q'' : List Float) (r : Taken) →
+    Fewer v f w p q n gone w' p' q' n' → every (isOld (stampsOf v f w)) gone ≡ true → TookCurrent v f w' p' q' n' w'' p'' q'' r → TookCurrent v f w p q n w'' p'' q'' r
+took-then {v} {f} {w} {p} {q} {n} {gone} {w'} {p'} {q'} {n'} w'' p'' q'' (Found top left) fewer old took =
+    let stamps = stamps-only (fewer .only) in
+    let either : Entry → Bool = λ e. isOld (stampsOf v f w) e || leb (entryRank top) (entryRank e) in
+    let after : Entry → Bool = λ e. leb (entryRank top) (entryRank e) in
+    record {
+      passed = took .passed ++ gone;
+      fewer = fewer-then fewer (took .fewer);
+      was = was-before fewer (took .was);
+      old = every-both (isOld (stampsOf v f w)) (took .passed) gone (rw stamps at (took .old)) old;
+      least = record {
+        current = rw stamps at (took .least .current);
+        least =
+            bag-every (fewer .bag) either
+            ∙ every-both either gone (entriesIn v f w' p' q' n')
+            (every-implies (isOld (stampsOf v f w)) either (λ e o. or-inl (isOld (stampsOf v f w) e) (after e) o) gone old)
+            (rw stamps at (took .least .least));
+      };
+    }
+took-then {v} {f} {w} {w' = w'} {p'} {q'} {n'} w'' p'' q'' Empty fewer old none =
+    let stamps = stamps-only (fewer .only) in
+    let test = isOld (stampsOf v f w) in
+    record {
+      only = only-then (fewer .only) (none .only);
+      queue = none .queue;
+      old = bag-every (fewer .bag) test ∙ every-both test _ (entriesIn v f w' p' q' n') old (rw stamps at (none .old));
+    }
+
+pub took-thrown : {v f : ℕ} {w : List ℕ} {p q : List Float} {n : ℕ} {w' : List ℕ} {p' q' : List Float} {n' : ℕ} (w'' : List ℕ) (p'' q'' : List Float) (r : Taken) →
+    ThrownOut v f w p q n w' p' q' n' → TookCurrent v f w' p' q' n' w'' p'' q'' r → TookCurrent v f w p q n w'' p'' q'' r
+took-thrown w'' p'' q'' r out took = took-then w'' p'' q'' r (thrown-fewer out) (thrown-old out) took

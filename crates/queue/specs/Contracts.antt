@@ -1,7 +1,5 @@
 -- What the queue's functions ask and leave.
 pub mod Ranks
 pub mod Order
-pub mod Places
 pub mod Queued
 pub mod Changes
-pub mod Pushing

@@ -11,7 +11,7 @@ use Rattle.memory.specs.Memory.{Room, nearAt}
 use Rattle.lists.specs.Frames.{But}
 use Rattle.ring.specs.Contracts.Wanting.{Near}
 use Rattle.ring.specs.Contracts.Taking.{Framed}
-use Rattle.memory.specs.Layout.{aroundFrom, marksFrom, nearFrom, orderFrom, stampsFrom}
+use Rattle.memory.specs.Layout.{aroundFrom, marksFrom, nearFrom, foldsFrom, stampsFrom}
 
 pub framed-refl : (v f : ℕ) (w : List ℕ) → Framed v f w w
 framed-refl v f w = record { same-length = refl; under = λ i l. refl; between = λ i l m. refl; over = λ i l. refl }
@@ -33,7 +33,7 @@ framed-marks but = record {
   over = λ i l. but .over i (omega arith);
 }
 
-pub framed-points : {v f : ℕ} {w w' : List ℕ} → But (aroundFrom v f) (orderFrom v f) w w' → Framed v f w w'
+pub framed-points : {v f : ℕ} {w w' : List ℕ} → But (aroundFrom v f) (foldsFrom v f) w w' → Framed v f w w'
 framed-points but = record {
   same-length = but .same-length;
   under = λ i l. but .under i (omega arith);

@@ -27,7 +27,7 @@ use Rattle.ring.specs.Contracts.Wanting.{found}
 use Rattle.ring.specs.Contracts.Taking.{marked, Taken, MarksReady}
 use Rattle.ring.proofs.FrameLaws.{framed-refl, framed-then, framed-marks, framed-points, framed-room}
 use Rattle.ring.proofs.WantedLaws.{found-none, found-next}
-use Rattle.memory.specs.Layout.{aroundFrom, marksFrom, orderFrom}
+use Rattle.memory.specs.Layout.{aroundFrom, marksFrom, foldsFrom}
 
 module _ (v f : ℕ) where
   -- ---- the marked points, as a sum over all points
@@ -122,7 +122,7 @@ module _ {v f : ℕ} where
     pub taken-one : {w'' : List ℕ} → w'' ≡ set w' (aroundFrom v f + n) y → Taken v f (λ u. eqb u y) w n w'' (n + 1)
     taken-one {w''} e =
         let place = unmark-place in
-        let but : But (aroundFrom v f) (orderFrom v f) w' w'' = rw e (but-set _ _ w' (aroundFrom v f + n) y (omega arith) (omega arith)) in
+        let but : But (aroundFrom v f) (foldsFrom v f) w' w'' = rw e (but-set _ _ w' (aroundFrom v f + n) y (omega arith) (omega arith)) in
         let same-marks : (u : ℕ) → u < v → mark v f w'' u ≡ mark v f w' u = λ u l. but .under (marksFrom v f + u) (omega arith) in
         let here : getD w'' (aroundFrom v f + n) 0 ≡ y =
         rw e (getD-set-same w' (aroundFrom v f + n) y 0 (omega (arith, unmark-room .long))) in

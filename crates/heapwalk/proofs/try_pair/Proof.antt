@@ -46,7 +46,7 @@ try-fold-requires c κs =
       held .tidy,
       (
         (pair-points h .0, pair-points h .1, pair-differ h),
-        (omega (arith, held .places-long), omega (arith, held .queue .costs-long)),
+        (omega (arith, held .queue .enough .places-long), omega (arith, held .queue .enough .costs-long)),
       ),
     )
 

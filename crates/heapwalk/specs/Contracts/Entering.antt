@@ -1,8 +1,7 @@
 -- Pairs are opened into the queue: what that asks, and what it leaves.
-use Prim.Native.Nat.{ℕ, _*_, _≤_, _<_}
+use Prim.Native.Nat.{ℕ, _*_, _<_}
 use mathlib.Core.Path.{_≡_}
 use mathlib.Core.List.{List, map}
-use lib.ListN.{length}
 use lib.Ieee.{Float}
 use Rattle.placement.specs.declared.Limit.{Limit}
 use Rattle.walk.specs.declared.Pair.{Pair}
@@ -12,7 +11,8 @@ use Rattle.mesh.specs.Contracts.Chains.{Tidy}
 use Rattle.memory.specs.Entries.{stamp}
 use Rattle.memory.specs.Points.{meshOf}
 use Rattle.queue.specs.State.{openIn}
-use Rattle.queue.specs.Stored.{StoredEntry, stampsOf, entriesIn, Requeued}
+use Rattle.memory.specs.declared.entries.Entry.{Entry}
+use Rattle.queue.specs.Stored.{stampsOf, entriesIn, Requeued}
 use Rattle.heapwalk.specs.Entries.{entryFor}
 use Rattle.queue.specs.Contracts.Queued.{Queue, Kept}
 use Rattle.queue.specs.Contracts.Changes.{Enqueued}
@@ -21,12 +21,11 @@ use Rattle.memory.specs.Layout.{costsTo, foldsFrom, placesTo, stampsFrom}
 -- the memory holds a mesh and a queue of n entries
 pub record Open (v f : ℕ) (w : List ℕ) (p q : List Float) (n : ℕ) (bound : Float) : Type 0 where
   pub tidy : Tidy v f w
-  pub places-long : placesTo v f ≤ length p
-  pub queue : Queue v f w q n
+  pub queue : Queue v f w p q n
   pub kept : Kept v f w p q n bound
 
 -- the entries that the pairs of a list get in the mesh in memory, with the present stamps
-abbrev pub entriesFor : (v f : ℕ) (w : List ℕ) (p q : List Float) (limit : Limit) (bound : Float) → List Pair → List StoredEntry
+abbrev pub entriesFor : (v f : ℕ) (w : List ℕ) (p q : List Float) (limit : Limit) (bound : Float) → List Pair → List Entry
 entriesFor v f w p q limit bound = map (entryFor limit bound (meshOf v f w p q) (stampsOf v f w))
 
 -- entries for a list of pairs are put in, and the memory holds a mesh and a queue as before

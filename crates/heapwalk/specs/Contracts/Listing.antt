@@ -13,7 +13,7 @@ use Rattle.walk.specs.Pairs.{pairOf}
 use Rattle.openpairs.specs.Contracts.Waiting.{fits}
 use Rattle.queue.specs.State.{openIn}
 use Rattle.heapwalk.specs.Contracts.Entering.{Open, Entered}
-use Rattle.memory.specs.Layout.{nearFrom, orderFrom}
+use Rattle.memory.specs.Layout.{nearFrom, foldsFrom}
 
 -- x with each point of a list, where the pair is eligible
 abbrev pub pairsWith : ℕ → ℕ → List ℕ → List Float → List Float → Limit → Float → ℕ → List ℕ → List Pair
@@ -30,4 +30,4 @@ pub record Enterable (v f : ℕ) (w : List ℕ) (p q : List Float) (n : ℕ) (li
 pub record EnteredBeside (v f : ℕ) (w : List ℕ) (p q : List Float) (n : ℕ) (limit : Limit) (bound : Float) (more : List Pair)
     (w' : List ℕ) (p' q' : List Float) (n' : ℕ) : Type 0 where
   pub entered : Entered v f w p q n limit bound more w' p' q' n'
-  pub lists-same : (i : ℕ) → nearFrom v f ≤ i → i < orderFrom v f → getD w' i 0 ≡ getD w i 0
+  pub lists-same : (i : ℕ) → nearFrom v f ≤ i → i < foldsFrom v f → getD w' i 0 ≡ getD w i 0

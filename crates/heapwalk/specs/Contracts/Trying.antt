@@ -1,5 +1,5 @@
--- What trying the pair of the entry that was taken off asks, and what it leaves.
-use Prim.Native.Nat.{ℕ, _*_, _<_}
+-- What trying the pair of an entry that was taken off asks, and what it leaves.
+use Prim.Native.Nat.{ℕ}
 use mathlib.Core.Path.{_≡_}
 use mathlib.Core.List.{List, _∷_}
 use lib.Ieee.{Float}
@@ -9,10 +9,8 @@ use Rattle.placement.specs.declared.pair.Vertex.{Vertex}
 use Rattle.placement.specs.Pairs.{pairPlace}
 use Rattle.walk.specs.declared.Pair.{Pair}
 use Rattle.walk.specs.Pairs.{pairOf}
-use Rattle.walk.specs.Walk.{State, StepAnswer, tried}
-use Rattle.meaning.specs.Arithmetic.{rulesOf}
+use Rattle.walk.specs.Walk.{State, StepAnswer}
 use Rattle.memory.specs.Points.{vertexAt, meshOf}
-use Rattle.memory.specs.Entries.{pairAt, entryPlace}
 use Rattle.queue.specs.State.{openIn}
 use Rattle.queue.specs.Stored.{stampsOf, entriesIn, Requeued}
 use Rattle.plainwalk.specs.declared.Stepped.{Stepped}
@@ -24,17 +22,7 @@ unfoldable pub pairState : ℕ → ℕ → List ℕ → List Float → List Floa
 unfolding meshOf openIn
 pairState v f w p q n x = record { mesh = meshOf v f w p q; «open» = x ∷ openIn v f w n }
 
--- the same of the entry in slot s
-abbrev pub topState : ℕ → ℕ → List ℕ → List Float → List Float → ℕ → ℕ → State Vertex
-topState v f w p q n s = pairState v f w p q n (pairAt v f w s)
-
--- while the entry in slot s is off the queue: its stored place is where its pair goes
-pub record TopHolds (v f : ℕ) (w : List ℕ) (p q : List Float) (n live : ℕ) (bound : Float) (s : ℕ) : Type 0 where
-  pub held : Held v f w p q n live bound (topState v f w p q n s)
-  pub slot : s < 3 * f
-  pub place : entryPlace v p s ≡ pairPlace bound (vertexAt v f w p q (pairAt v f w s .keep)) (vertexAt v f w p q (pairAt v f w s .remove))
-
--- the same of a pair that was read, with its place
+-- a pair that is off the queue, with the place where it goes
 pub record PairHolds (v f : ℕ) (w : List ℕ) (p q : List Float) (n live : ℕ) (bound : Float) (keep remove : ℕ) (place : Point) : Type 0 where
   pub held : Held v f w p q n live bound (pairState v f w p q n (pairOf keep remove))
   pub same-place : place ≡ pairPlace bound (vertexAt v f w p q keep) (vertexAt v f w p q remove)
@@ -47,8 +35,3 @@ pub record PairAnswer (v f : ℕ) (w : List ℕ) (p q : List Float) (n keep remo
   pub raised : StampsRaised v f w a w'
   pub requeued : Requeued (stampsOf v f w') (entriesIn v f w p q n) (newEntries limit bound (meshOf v f w' p' q') (stampsOf v f w') a)
       (entriesIn v f w' p' q' (r .«open»))
-
--- The pair of the entry that was taken off is folded where the plain walk folds it, and closed where it closes it.
-abbrev pub TopTried : (v f : ℕ) (w : List ℕ) (p q : List Float) (n s : ℕ) (limit : Limit) (bound : Float) (w' : List ℕ) (p' q' : List Float) (r : Stepped) → Type 0
-TopTried v f w p q n s limit bound w' p' q' r =
-    PairAnswer v f w p q n (pairAt v f w s .keep) (pairAt v f w s .remove) limit bound (tried (rulesOf limit bound) (meshOf v f w p q) (pairAt v f w s)) w' p' q' r

@@ -14,7 +14,7 @@ use Rattle.meaning.specs.Arithmetic.{rulesOf}
 use Rattle.memory.specs.Entries.{pairAt}
 use Rattle.openpairs.specs.State.{openPairs}
 use Rattle.openpairs.specs.declared.pairs.Least.{Least}
-use Rattle.memory.specs.Layout.{keepsFrom, nearFrom, orderFrom}
+use Rattle.memory.specs.Layout.{keepsFrom, nearFrom, foldsFrom}
 
 -- every open pair names two points below v
 abbrev pub Named : (v f : ℕ) (w : List ℕ) (n : ℕ) → Type 0
@@ -40,5 +40,5 @@ pub record Dropped (v f : ℕ) (w : List ℕ) (n keep remove : ℕ) (w' : List �
 
 -- pairs are opened: a list of them is added, in any order. Marks, faces and points are as before.
 pub record Added (v f : ℕ) (w : List ℕ) (n : ℕ) (more : List Pair) (w' : List ℕ) (n' : ℕ) : Type 0 where
-  pub but : But (keepsFrom v f) (orderFrom v f) w w'
+  pub but : But (keepsFrom v f) (foldsFrom v f) w w'
   pub sums : (g : Pair → ℕ) → sum g (openPairs v f w' n') ≡ sum g (openPairs v f w n) + sum g more

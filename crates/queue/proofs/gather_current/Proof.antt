@@ -1,58 +1,67 @@
 -- `queue::gather_current` meets its contract. The loop's invariant is `Gathering`; each arm of the test is one law of it.
 -- The measure is how many entries are left to look at. Assumes nothing.
 use Prim.Native.Nat.{_≤_, _-_}
+use native.Mathlib.Omega.{arith}
 use borrow.Author.Needs.{needs}
 use mathlib.Core.Logic.{⊎-elim}
-use Rattle.queue.proofs.EntryLaws.{room-but}
-use Rattle.queue.proofs.ThrowLaws.{Gathering, gathering-none, gathering-kept, gathering-old, gathering-all, turn-entered}
+use Rattle.memory.proofs.EntryLaws.{room-only}
+use Rattle.queue.proofs.ThrowLaws.{Gathering, gathering-none, gathering-kept, gathering-old, gathering-all, looked-named}
 use Rattle.queue.proofs.gather_current.Statement.{statement}
 use Rattle.queue.proofs.gather_current.Tie as tie
 
 abbrev Inv-loop : tie.InvT-loop
-Inv-loop w₀ v f n kept₀ i₀ w kept i = (i ≤ n) × Gathering v f w₀ n w kept i
+Inv-loop w₀ p₀ q₀ v f n kept₀ i₀ w p q kept i = (i ≤ n) × Gathering v f w₀ p₀ q₀ n w p q kept i
 
 abbrev μ-loop : tie.MeasureT-loop
-μ-loop w₀ v f n kept₀ i₀ w kept i = n - i
+μ-loop w₀ p₀ q₀ v f n kept₀ i₀ w p q kept i = n - i
 
 loop-holds : tie.Need-loop-holds Inv-loop μ-loop
-loop-holds c = (search needs, gathering-none _ _ _ _)
+loop-holds c = (search needs, gathering-none _ _ _ _ _ _)
 
-slot-at-requires : tie.Need-slot-at-requires Inv-loop μ-loop
-slot-at-requires c κs =
-    let turn = c .before .before in
-    let pre = turn .before .before .pre in
-    (search needs, room-but (turn .loop .inv .1 .sifted .but) (pre .1 .0))
+entry-at-requires : tie.Need-entry-at-requires Inv-loop μ-loop
+entry-at-requires c κs =
+    let pre = c .before .before .before .before .before .before .before .before .pre in
+    (omega (arith, pre .0, c .before .before .before .loop-test .taken), room-only (c .before .before .before .before .loop .inv .1 .only) (pre .1 .0))
 
 is-current-requires : tie.Need-is-current-requires Inv-loop μ-loop
 is-current-requires c κs =
-    let turn = c .before .before .before .before in
-    let pre = turn .before .before .pre in
-    let entered = turn-entered (pre .0) (c .before .before .before .loop-test .taken) (pre .1 .1) (turn .loop .inv .1) (c .before .slot-at .ensures) in
-    (entered .slot, (room-but (turn .loop .inv .1 .sifted .but) (pre .1 .0), (entered .keep, entered .remove)))
+    let pre = c .before .before .before .before .before .before .before .before .before .before .pre in
+    let turn = c .before .before .before .before .before .before .loop .inv .1 in
+    (room-only (turn .only) (pre .1 .0) .room, looked-named (pre .1 .1) (c .before .before .before .before .before .loop-test .taken) turn (c .before .entry-at .ensures))
 
-swap-slots-requires : tie.Need-swap-slots-requires Inv-loop μ-loop
-swap-slots-requires c κs =
-    let turn = c .before .before .before .before .before .before .before in
-    let few = turn .loop .inv .1 .few in
-    (search needs, (search needs, room-but (turn .loop .inv .1 .sifted .but) (turn .before .before .pre .1 .0)))
+set-entry-requires : tie.Need-set-entry-requires Inv-loop μ-loop
+set-entry-requires c κs =
+    let pre = c .before .before .before .before .before .before .before .before .before .before .before .before .before .before .before .pre in
+    let turn = c .before .before .before .before .before .before .before .before .before .before .before .loop .inv .1 in
+    (omega (arith, pre .0, c .before .before .before .before .before .before .before .before .before .before .loop-test .taken, turn .few), room-only (turn .only) (pre .1 .0))
+
+add-kept : tie.Need-add-kept Inv-loop μ-loop
+add-kept c =
+    let pre = c .before .before .before .before .before .before .before .before .before .before .before .before .before .before .before .before .before .before .before .before .before .before .pre in
+    omega (arith, pre .0, pre .1 .0 .room .faces-few, c .before .before .before .before .before .before .before .before .before .before .before .before .before .before .before .before .before .loop-test .taken, c .before .before .before .before .before .before .before .before .before .before .before .before .before .before .before .before .before .before .loop .inv .1 .few)
 
 loop-again : tie.Need-loop-again Inv-loop μ-loop
 loop-again c =
-    let tested = c .before in
-    let read = tested .before .before in
-    let turn = read .before .before .before in
-    let pre = turn .before .before .pre in
-    let inside = read .before .before .loop-test .taken in
-    let inv = turn .loop .inv .1 in (
+    let pre = c .before .before .before .before .before .before .before .before .before .before .before .before .pre in
+    let inside = c .before .before .before .before .before .before .before .loop-test .taken in
+    let turn = c .before .before .before .before .before .before .before .before .loop .inv .1 in
+    let read = c .before .before .before .entry-at .ensures in
+    let told = c .before .is-current .ensures in (
       search needs,
       ⊎-elim
-          (λ p.
-          rw (p .5, p .6)
-          (gathering-kept (pre .0) inside (pre .1 .1) inv (read .slot-at .ensures) (room-but (inv .sifted .but) (pre .1 .0)) (p .0 .taken)
-          (tested .is-current .ensures) (p .2 .ensures)))
-          (λ p. rw (p .1, p .2) (gathering-old (pre .0) inside (pre .1 .1) inv (read .slot-at .ensures) (p .0 .left) (tested .is-current .ensures)))
+          (λ p. rw (p .11, p .12, p .13, p .14) (gathering-kept (pre .1 .1) inside turn read (p .0 .taken) told (p .4 .ensures)))
+          (λ p. rw (p .1, p .2, p .3, p .4) (gathering-old (pre .1 .1) inside turn read (p .0 .left) told))
           (c .if1 .came),
     )
+
+same-length : tie.Need-same-length Inv-loop μ-loop
+same-length c = c .before .loop .inv .1 .only .but .same-length
+
+same-length-2 : tie.Need-same-length-2 Inv-loop μ-loop
+same-length-2 c = c .before .loop .inv .1 .only .points-but .same-length
+
+same-length-3 : tie.Need-same-length-3 Inv-loop μ-loop
+same-length-3 c = c .before .loop .inv .1 .only .quadrics-but .same-length
 
 returns : tie.Need-returns Inv-loop μ-loop
 returns c = gathering-all (search needs) (c .before .loop .inv .1)
@@ -64,12 +73,14 @@ gather-current-spec =
     Inv-loop
     μ-loop
     loop-holds
-    slot-at-requires
+    entry-at-requires
     is-current-requires
-    swap-slots-requires
-    (λ c. search needs)
+    set-entry-requires
+    add-kept
     (λ c. search needs)
     (λ c. search needs)
     loop-again
-    (λ c. search needs)
+    same-length
+    same-length-2
+    same-length-3
     returns)

@@ -1,32 +1,35 @@
--- `queue::pop` meets its contract: the exchange and the move down are put together by `PopLaws`.
--- Assumes nothing.
+-- `queue::pop` meets its contract: the last one is let down from the top. Assumes nothing.
+use native.Mathlib.Omega.{arith}
 use borrow.Author.Needs.{needs}
-use Rattle.queue.proofs.PopLaws.{rest-slotted, rest-heap, popping}
+use Rattle.queue.proofs.PopLaws.{top-holed, top-heap, popping}
 use Rattle.queue.proofs.pop.Statement.{statement}
 use Rattle.queue.proofs.pop.Tie as tie
 
+entry-at-requires : tie.Need-entry-at-requires
+entry-at-requires c κs = let s = c .before .before .before .before .before .before in (omega (arith, s .pre .0, s .pre .1 .few), s .pre .1 .enough)
+
+entry-at-requires-2 : tie.Need-entry-at-requires-2
+entry-at-requires-2 c κs = let s = c .before .before .before .before .before .before .before .before .before .before in (omega (arith, s .pre .0, s .pre .1 .few), s .pre .1 .enough)
+
 sift-down-requires : tie.Need-sift-down-requires
-sift-down-requires c κs =
-    let swapped = c .before .before .before in
-    let pre = swapped .before .before .before .before .before .before .pre in
-    (rest-slotted (pre .1) (pre .0) (swapped .swap-slots .ensures), rest-heap (pre .1) (pre .0) (swapped .swap-slots .ensures))
+sift-down-requires c κs = let s = c .before .before .before .before .before .before .before .before .before .before .before .before .before .before in (top-holed (s .pre .1) (s .pre .0), top-heap (s .pre .1) (s .pre .0))
 
 returns : tie.Need-returns
 returns c =
-    let sifted = c .before .before in
-    let swapped = sifted .before .before .before .before in
-    let read = swapped .before .before in
-    let pre = read .before .before .before .before .pre in
-    popping (pre .1) (pre .0) (swapped .swap-slots .ensures) (read .slot-at .ensures) (sifted .sift-down .ensures .0) (sifted .sift-down .ensures .1)
+    let s = c .before .before .before .before .before .before .before .before .before .before .before .before .before .before .before .before .before .before .before .before .before in
+    popping (s .pre .1) (s .pre .0) (c .before .before .before .before .before .before .before .before .before .before .before .before .before .before .entry-at .ensures) (c .before .before .before .before .before .before .before .before .before .before .entry-at2 .ensures)
+    (c .before .before .before .before .before .before .sift-down .ensures)
 
 pub pop-spec : {M : Type 1} → statement M
 pop-spec =
     tie.close
     (tie.spec
-    (λ c κs. search needs)
+    entry-at-requires
     (λ c. search needs)
-    (λ c κs. search needs)
+    entry-at-requires-2
     (λ c. search needs)
     sift-down-requires
+    (λ c. search needs)
+    (λ c. search needs)
     (λ c. search needs)
     returns)

@@ -1,69 +1,50 @@
--- `queue::push` meets its contract: room is made, the free slot is chosen and written, and it rises to its place, by the laws of PushLaws.
--- Assumes nothing.
+-- `queue::push` meets its contract: room is made, and the entry rises to its place, by the laws of PushLaws. Assumes nothing.
+use Prim.Native.Nat.{_<_}
 use native.Mathlib.Omega.{arith}
+use mathlib.Core.Path.{_≡_, _∙_}
 use borrow.Author.Needs.{needs}
-use Rattle.queue.proofs.MovedLaws.{holds-slot}
-use Rattle.queue.proofs.PushLaws.{put-slotted, put-heap, entry-pushed, entry-kept}
+use Rattle.queue.specs.Contracts.Changes.{entryOf}
+use Rattle.queue.proofs.PushLaws.{entry-only, entry-pushed, entry-kept}
 use Rattle.queue.proofs.push.Statement.{statement}
 use Rattle.queue.proofs.push.Tie as tie
 
--- ---- the place after each step, from the place before the next
-
-abbrev written : tie.After-sift-up-arg2 → tie.After-put-entry
-written c = c .before .before .before .before .before .before .before .before
-
-abbrev chosen : tie.After-put-entry-arg3 → tie.After-slot-at
-chosen c = c .before .before .before
-
-abbrev roomy : tie.After-slot-at → tie.After-make-room
-roomy c = c .before .before .before .before
-
-abbrev entry : tie.After-make-room → tie.Start
-entry c = c .before .before .before .before .before .before
-
--- ---- the needs
-
-put-entry-requires : tie.Need-put-entry-requires
-put-entry-requires c κs =
-    let slot = chosen c in
-    let made = roomy slot .make-room .ensures in
-    let given = entry (roomy slot) .pre in (
-      rw (slot .slot-at .ensures) (holds-slot (made .queue) _ (omega (arith, made .free))),
-      (made .queue .room, (given .1 .1 .0, (made .queue .costs-long, given .1 .1 .1 .0))),
-    )
+entry-of-requires : tie.Need-entry-of-requires
+entry-of-requires c κs =
+    (c .before .before .before .before .before .before .before .make-room .ensures .fewer .queue .enough .room, c .before .before .before .before .before .before .before .before .before .before .before .before .before .before .pre .1 .1 .0)
 
 sift-up-requires : tie.Need-sift-up-requires
 sift-up-requires c κs =
-    let put = written c in
-    let slot = chosen (put .before) in
-    let made = roomy slot .make-room .ensures in
-    let points = entry (roomy slot) .pre .1 .1 .1 .0 in (
-      put-slotted (made .queue) (made .free) (slot .slot-at .ensures) (points .0) (points .1) (put .put-entry .ensures),
-      put-heap (made .queue) (made .free) (slot .slot-at .ensures) (points .0) (points .1) (put .put-entry .ensures),
-    )
+    let made = c .before .before .before .before .before .before .before .before .before .before .before .make-room .ensures in
+    let free = made .free in
+    (record { enough = made .fewer .queue .enough; few = omega arith; inside = free }, made .fewer .queue .ordered)
+
+-- the entry has the stamps of before
+entry-is : (c : tie.After-entry-of) → let a = c .before .before .before .before .before .before .before .before .before .before .before .before .before .before .before .args in
+    c .entry-of .result ≡ entryOf (a .v) (a .f) (a .w .now) (a .fold .keep) (a .fold .remove) (a .cost) (a .fold .place)
+entry-is c =
+    let s = c .before .before .before .before .before .before .before .before .before .before .before .before .before .before .before in
+    let points = s .pre .1 .1 .0 in
+    c .entry-of .ensures ∙ entry-only (s .args .cost) (s .args .fold .place) (c .before .before .before .before .before .before .before .before .make-room .ensures .fewer .only) (points .0) (points .1)
+
+add-result : tie.Need-add-result
+add-result c = let s = c .before .before .before .before .before .before .before .before .before .before .before .before .before .before .before .before .before .before .before .before .before .before .before .before .before in omega (arith, c .before .before .before .before .before .before .before .before .before .before .before .before .before .before .before .before .before .before .make-room .ensures .free, s .pre .0 .enough .room .faces-few)
 
 returns : tie.Need-returns
 returns c =
-    let risen = c .before .before in
-    let put = written (risen .before) in
-    let slot = chosen (put .before) in
-    let made = roomy slot .make-room .ensures in
-    let given = entry (roomy slot) .pre in
-    let sifted = risen .sift-up .ensures in (
-      entry-pushed (given .0) (given .1 .0) (given .1 .1 .0) (given .1 .1 .1 .0) made (slot .slot-at .ensures) (put .put-entry .ensures)
-          (sifted .0) (sifted .1),
-      entry-kept (given .0) (given .1 .0) (given .1 .1 .0) (given .1 .1 .1 .0) made (slot .slot-at .ensures) (put .put-entry .ensures) (sifted .0),
-    )
+    let s = c .before .before .before .before .before .before .before .before .before .before .before .before .before .before .before .before .before .before .before .before .before .before .before .before .before in
+    let made = c .before .before .before .before .before .before .before .before .before .before .before .before .before .before .before .before .before .before .make-room .ensures in
+    let is = entry-is (c .before .before .before .before .before .before .before .before .before .before) in
+    let sifted = c .before .before .before .before .before .before .sift-up .ensures in
+    (entry-pushed (s .pre .1 .0) (s .pre .1 .1 .0) made is sifted, entry-kept (s .pre .1 .0) (s .pre .1 .1 .0) made is sifted)
 
 pub push-spec : {M : Type 1} → statement M
 push-spec =
     tie.close
     (tie.spec
     (λ c κs. search needs)
-    (λ c κs. search needs)
-    put-entry-requires
+    entry-of-requires
     sift-up-requires
-    (λ c. search needs)
+    add-result
     (λ c. search needs)
     (λ c. search needs)
     (λ c. search needs)

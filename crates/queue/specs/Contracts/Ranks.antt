@@ -1,27 +1,39 @@
--- The order of the queue in the lent memory. An entry lies in a slot, a number below 3F, and stays there. The order lists slots, and it alone is moved.
---
---   memory  from        cells   what
---   u32     7F + 4V     3F      keep, and from 10F + 4V remove: the pair of each slot
---   u32     15F + 5V    3F      order: the slots, the n that are queued first
---   f64     10V         3F      cost: of each slot
-use Prim.Native.Nat.{ℕ, _-_, _/_, _≤_, _<_}
+-- The order of the queue: a heap of four children to a place. The places under place k are 4k + 1 to 4k + 4.
+use Prim.Native.Nat.{ℕ, _+_, _-_, _*_, _/_, _≤_, _<_}
+use mathlib.Core.Path.{_≡_}
+use mathlib.Core.Bool.{cond}
 use mathlib.Core.List.{List}
+use lib.Dec.{ltb}
 use lib.Ieee.{Float}
 use Rattle.bits.specs.Order.{floatKey}
 use Rattle.openpairs.specs.declared.pairs.Ranked.{Ranked}
-use Rattle.memory.specs.Entries.{pairAt, slotAt, costIn}
+use Rattle.memory.specs.Entries.{entryPair, costIn}
 use Rattle.openpairs.specs.Contracts.Ranks.{rank}
 
--- what the entry in a slot is compared by: the key of its stored cost, then keep, then remove
+-- what the entry in a place is compared by: the key of its stored cost, then keep, then remove
 abbrev pub rankedIn : ℕ → ℕ → List ℕ → List Float → ℕ → Ranked
-rankedIn v f w q s = record { at = s; key = floatKey (costIn v q s); keep = pairAt v f w s .keep; remove = pairAt v f w s .remove }
+rankedIn v f w q i = record { at = i; key = floatKey (costIn v q i); keep = entryPair v f w i .keep; remove = entryPair v f w i .remove }
 
 unfoldable pub rankIn : ℕ → ℕ → List ℕ → List Float → ℕ → ℕ
-rankIn v f w q s = rank (rankedIn v f w q s)
+rankIn v f w q i = rank (rankedIn v f w q i)
 
-abbrev pub rankAt : ℕ → ℕ → List ℕ → List Float → ℕ → ℕ
-rankAt v f w q i = rankIn v f w q (slotAt v f w i)
+-- ---- by the ranks of their places
 
--- from place lo on, no entry of the first n comes before the one over it
-abbrev pub HeapFrom : (lo v f : ℕ) (w : List ℕ) (q : List Float) (n : ℕ) → Type 0
-HeapFrom lo v f w q n = (k : ℕ) → 0 < k → k < n → lo ≤ (k - 1) / 2 → rankAt v f w q ((k - 1) / 2) ≤ rankAt v f w q k
+-- the place over another
+abbrev pub over : ℕ → ℕ
+over k = (k - 1) / 4
+
+-- from place lo on, none of the first n is below the one over it
+abbrev pub Heap : ℕ → (ℕ → ℕ) → ℕ → Type 0
+Heap lo r n = (k : ℕ) → 0 < k → k < n → lo ≤ over k → r (over k) ≤ r k
+
+-- of two places the one of lower rank, and the first of them where the second is not below n
+unfoldable pub lesserOf : (ℕ → ℕ) → ℕ → ℕ → ℕ → ℕ
+lesserOf r n i j = cond (ltb j n) (cond (ltb (r j) (r i)) j i) i
+
+-- of the places under one that are below n, the one of lowest rank
+pub record LowestUnder (r : ℕ → ℕ) (n at first : ℕ) : Type 0 where
+  pub within : first < n
+  pub positive : 0 < first
+  pub under : over first ≡ at
+  pub lowest : (k : ℕ) → 0 < k → k < n → over k ≡ at → r first ≤ r k

@@ -7,7 +7,7 @@ use lib.Dec.{eqb}
 use lib.ListN.{length, getD}
 use Rattle.lists.specs.Lists.{sum, those, below}
 use Rattle.memory.specs.Memory.{mark, Room, aroundIn}
-use Rattle.memory.specs.Layout.{aroundFrom, marksFrom, orderFrom, stampsFrom}
+use Rattle.memory.specs.Layout.{aroundFrom, marksFrom, foldsFrom, stampsFrom}
 
 -- the points that are marked
 unfoldable pub marked : ℕ → ℕ → List ℕ → List ℕ
@@ -18,7 +18,7 @@ pub record Framed (v f : ℕ) (w w' : List ℕ) : Type 0 where
   pub same-length : length w' ≡ length w
   pub under : (i : ℕ) → i < marksFrom v f → getD w' i 0 ≡ getD w i 0
   pub between : (i : ℕ) → stampsFrom v f ≤ i → i < aroundFrom v f → getD w' i 0 ≡ getD w i 0
-  pub over : (i : ℕ) → orderFrom v f ≤ i → getD w' i 0 ≡ getD w i 0
+  pub over : (i : ℕ) → foldsFrom v f ≤ i → getD w' i 0 ≡ getD w i 0
 
 -- Some marks are taken off, and their points are listed: listed points and marked ones are together the same.
 pub record Taken (v f : ℕ) (which : ℕ → Bool) (w : List ℕ) (n : ℕ) (w' : List ℕ) (n' : ℕ) : Type 0 where

@@ -16,7 +16,7 @@ vertex-at-requires-2 c κs =
     let ready = c .before .before .before .before .before .before .before .before .before .before .pre in
     let held = ready .«open» in (
       omega (arith, held .tidy .room .long, one-point ready),
-      (omega (arith, held .places-long, one-point ready), omega (arith, held .queue .costs-long, one-point ready)),
+      (omega (arith, held .queue .enough .places-long, one-point ready), omega (arith, held .queue .enough .costs-long, one-point ready)),
     )
 
 -- the function's entry, from where the candidate is known
@@ -46,8 +46,8 @@ push-requires c κs =
     let other = one-point ready in (
       held .queue,
       (
-        held .kept .named,
-        (held .places-long, ((omega (arith, ready .point, other), omega (arith, ready .point, other)), one-place ready (same .0))),
+        (λ i l. held .kept i l .named),
+        ((omega (arith, ready .point, other), omega (arith, ready .point, other)), one-place ready (same .0)),
       ),
     )
 

@@ -16,51 +16,44 @@ abbrev μ-loop : tie.MeasureT-loop
 
 empty-requires : tie.Need-empty-requires Inv-loop μ-loop
 empty-requires c κs =
-    let start = c .before .before .before .before .before in
-    (start .pre .0 .room, start .pre .1 .1)
+    let pre = c .before .before .before .before .before .before .pre in
+    record { room = pre .0 .room; places-long = pre .1 .0; costs-long = pre .1 .1 }
 
 loop-holds : tie.Need-loop-holds Inv-loop μ-loop
 loop-holds c =
-    let emptied = c .before .before in
-    let start = emptied .before .before .before .before .before .before in
-    (search needs, starting-none (start .pre .0) (emptied .empty .ensures) (start .pre .1 .0) (start .args .bounds .limit) (start .args .bounds .size))
+    let start = c .before .before .before .before .before .before .before .before .before in
+    (search needs, starting-none (start .pre .0) (c .before .before .empty .ensures) (start .args .bounds .limit) (start .args .bounds .size))
 
 cast-enter-around : tie.Need-cast-enter-around Inv-loop μ-loop
-cast-enter-around c =
-    let start = c .before .before .before .before .before .before .before .before .before .before .before .before .before in
-    omega (arith, start .pre .0 .room .points-few)
+cast-enter-around c = omega (arith, c .before .before .before .before .before .before .before .before .before .before .before .before .before .before .pre .0 .room .points-few)
 
 enter-around-requires : tie.Need-enter-around-requires Inv-loop μ-loop
 enter-around-requires c κs =
     let turn = c .before .before .before .before in
-    let emptied = turn .before .before .before in
-    let start = emptied .before .before .before .before .before .before in
+    let start = c .before .before .before .before .before .before .before .before .before .before .before .before .before .before in
     let done = turn .loop .inv .1 in (
       done .«open»,
       (
         search needs,
-        starting-room (start .pre .0) (emptied .empty .ensures) (start .pre .1 .0) (start .args .bounds .limit) (start .args .bounds .size)
+        starting-room (start .pre .0) (c .before .before .before .before .before .before .before .empty .ensures) (start .args .bounds .limit) (start .args .bounds .size)
             (turn .loop .x) done (search needs),
       ),
     )
 
 loop-again : tie.Need-loop-again Inv-loop μ-loop
 loop-again c =
-    let after = c .before .before .before .before .before .before in
-    let turn = after .before .before .before .before .before in
-    let emptied = turn .before .before .before in
-    let start = emptied .before .before .before .before .before .before in (
-      search needs,
-      starting-next (start .pre .0) (emptied .empty .ensures) (start .pre .1 .0) (start .args .bounds .limit) (start .args .bounds .size)
-          (turn .loop .x) (turn .loop .inv .1) (after .enter-around .ensures),
+    let turn = c .before .before .before .before .before .before .before .before .before .before .before in
+    let start = c .before .before .before .before .before .before .before .before .before .before .before .before .before .before .before .before .before .before .before .before .before in (
+      omega (arith, c .before .before .before .before .before .before .before .before .before .before .loop-test .taken),
+      starting-next (start .pre .0) (c .before .before .before .before .before .before .before .before .before .before .before .before .before .before .empty .ensures) (start .args .bounds .limit) (start .args .bounds .size)
+          (turn .loop .x) (turn .loop .inv .1) (c .before .before .before .before .before .before .enter-around .ensures),
     )
 
 returns : tie.Need-returns Inv-loop μ-loop
 returns c =
     let turn = c .before in
-    let emptied = turn .before .before .before in
-    let start = emptied .before .before .before .before .before .before in
-    starting-all (start .pre .0) (emptied .empty .ensures) (start .pre .1 .0) (start .args .bounds .limit) (start .args .bounds .size)
+    let start = c .before .before .before .before .before .before .before .before .before .before .before in
+    starting-all (start .pre .0) (c .before .before .before .before .empty .ensures) (start .args .bounds .limit) (start .args .bounds .size)
     (turn .loop .x) (turn .loop .inv .1) (search needs)
 
 pub enter-start-spec : {M : Type 1} → statement M

@@ -14,14 +14,12 @@ returns c = rw (← c .before .before .is-fixed .ensures, ← c .before .is-fixe
 returns-2 : tie.Need-returns-2
 unfolding pairCandidate eligible
 returns-2 c =
-    let length = c .before in
-    let free = length .before .before in
+    let free = c .before .before in
     rw (
       ← free .before .before .is-fixed .ensures,
       ← free .before .is-fixed2 .ensures,
       free .if1 .left,
-      ← length .before .pair-length .ensures,
-      ← length .is-above .ensures,
+      ← c .before .is-too-long .ensures,
       c .if2 .taken,
     )
 
@@ -29,12 +27,12 @@ returns-2 c =
 decided : (c : tie.After-is-finite) {t : Bool} →
     c .is-finite .result ≡ t →
     let choice = c .before .before .pair-choice .result in
-    let args = c .before .before .before .before .before .before .before .before .before .args in
+    let args = c .before .before .before .before .before .before .before .before .args in
     cond t (Eligible (choice .cost) (choice .place)) Ineligible ≡ pairCandidate (args .limit) (args .bound) (args .keep) (args .remove)
 unfolding pairCandidate eligible pairChoice pairPlace pairCost
 decided c e =
     let chosen = c .before .before in
-    let length = chosen .before .before in
+    let length = chosen .before in
     let free = length .before .before in
     rw (
       ← e,
@@ -43,9 +41,8 @@ decided c e =
       ← free .before .before .is-fixed .ensures,
       ← free .before .is-fixed2 .ensures,
       free .if1 .left,
-      ← length .before .pair-length .ensures,
-      ← length .is-above .ensures,
-      chosen .before .if2 .left,
+      ← length .before .is-too-long .ensures,
+      length .if2 .left,
     )
 
 returns-3 : tie.Need-returns-3
@@ -55,4 +52,4 @@ returns-4 : tie.Need-returns-4
 returns-4 c = decided (c .before) (c .if3 .left)
 
 pub pair-candidate-spec : {M : Type 1} → statement M
-pair-candidate-spec = tie.close (tie.spec (λ c κs. tt) (λ c κs. tt) returns (λ c κs. tt) (λ c κs. tt) returns-2 (λ c κs. tt) (λ c κs. tt) returns-3 returns-4)
+pair-candidate-spec = tie.close (tie.spec (λ c κs. tt) (λ c κs. tt) returns (λ c κs. tt) returns-2 (λ c κs. tt) (λ c κs. tt) returns-3 returns-4)

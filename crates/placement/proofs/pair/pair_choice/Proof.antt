@@ -1,10 +1,10 @@
 -- `placement::pair::pair_choice` meets its contract, from what `choose` ensures of the pair's quadric. Assumes nothing.
-use Rattle.placement.specs.Pairs.{pairChoice}
+use Rattle.placement.specs.Pairs.{pairLength, pairChoice}
 use Rattle.placement.proofs.pair.pair_choice.Statement.{statement}
 use Rattle.placement.proofs.pair.pair_choice.Tie as tie
 
 returns : tie.Need-returns
-unfolding pairChoice
+unfolding pairLength pairChoice
 returns c = rw (c .choose .ensures, c .before .pair-quadric .ensures)
 
 pub pair-choice-spec : {M : Type 1} → statement M

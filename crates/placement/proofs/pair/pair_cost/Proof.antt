@@ -5,7 +5,7 @@ use Rattle.placement.proofs.pair.pair_cost.Tie as tie
 
 returns : tie.Need-returns
 unfolding pairChoice pairPlace pairCost
-returns c = rw (c .pair-choice .ensures, c .before .pair-length .ensures)
+returns c = rw (c .pair-choice .ensures)
 
 pub pair-cost-spec : {M : Type 1} → statement M
-pair-cost-spec = tie.close (tie.spec (λ c κs. tt) (λ c κs. tt) returns)
+pair-cost-spec = tie.close (tie.spec (λ c κs. tt) returns)

@@ -5,7 +5,7 @@ use Rattle.placement.proofs.pair.pair_place.Tie as tie
 
 returns : tie.Need-returns
 unfolding pairChoice pairPlace
-returns c = rw (c .before .pair-choice .ensures, c .before .before .pair-length .ensures)
+returns c = rw (c .before .pair-choice .ensures)
 
 pub pair-place-spec : {M : Type 1} → statement M
-pair-place-spec = tie.close (tie.spec (λ c κs. tt) (λ c κs. tt) returns)
+pair-place-spec = tie.close (tie.spec (λ c κs. tt) returns)

@@ -6,12 +6,11 @@ use Rattle.placement.proofs.place.may_stand.Tie as tie
 returns : tie.Need-returns
 unfolding stands
 returns c =
-    let passed = c .before .before .before in
+    let passed = c .before .before in
     let sizes = passed .before in
     rw (
-      c .longer .ensures,
-      c .before .norm .ensures,
-      c .before .before .difference .ensures,
+      c .is-near .ensures,
+      c .before .difference .ensures,
       ← sizes .in-size3 .ensures,
       ← sizes .before .in-size2 .ensures,
       ← sizes .before .before .in-size .ensures,
@@ -32,4 +31,4 @@ returns-2 c =
     )
 
 pub may-stand-spec : {M : Type 1} → statement M
-may-stand-spec = tie.close (tie.spec (λ c κs. tt) (λ c κs. tt) (λ c κs. tt) (λ c κs. tt) (λ c κs. tt) (λ c κs. tt) (λ c κs. tt) returns returns-2)
+may-stand-spec = tie.close (tie.spec (λ c κs. tt) (λ c κs. tt) (λ c κs. tt) (λ c κs. tt) (λ c κs. tt) (λ c κs. tt) returns returns-2)

@@ -1,45 +1,57 @@
--- `queue::order::settle` meets its contract. The loop's invariant: the slots are in another order, and they make a heap from place lo on.
+-- `queue::order::settle` meets its contract. The loop's invariant: the entries are in another order, and they make a heap from place lo on.
 -- The measure is lo. Assumes nothing.
+use Prim.Native.Nat.{_≤_, _+_, _/_}
 use native.Mathlib.Omega.{arith}
 use borrow.Author.Needs.{needs}
-use Rattle.queue.specs.Contracts.Ranks.{HeapFrom, rankAt}
-use Rattle.queue.proofs.HeapLaws.{heap-halves, heap-higher}
-use Rattle.queue.proofs.SwapLaws.{Sifting, sifting-none, sifting-then}
+use Rattle.memory.specs.Entries.{entryIn}
+use Rattle.queue.specs.Contracts.Order.{ranks}
+use Rattle.queue.proofs.HeapLaws.{heap-quarters, heap-higher}
+use Rattle.queue.proofs.SettleLaws.{Settling, settling-start, settling-turn, settling-end}
 use Rattle.queue.proofs.order.settle.Statement.{statement}
 use Rattle.queue.proofs.order.settle.Tie as tie
 
 abbrev Inv-loop : tie.InvT-loop
-Inv-loop w₀ q v f n lo₀ w lo = Sifting v f q n w₀ w × HeapFrom lo v f w q n
+Inv-loop w₀ p₀ q₀ v f n lo₀ w p q lo = (lo ≤ (n + 2) / 4) × Settling v f n w₀ p₀ q₀ w p q lo
 
 abbrev μ-loop : tie.MeasureT-loop
-μ-loop w₀ q v f n lo₀ w lo = lo
+μ-loop w₀ p₀ q₀ v f n lo₀ w p q lo = lo
 
 loop-holds : tie.Need-loop-holds Inv-loop μ-loop
-loop-holds c =
-    let start = c .before .before in
-    let given = start .args in
-    (sifting-none (start .pre), heap-halves (rankAt (given .v) (given .f) (given .w .now) (given .q .now)) (omega arith))
+loop-holds c = let s = c .before .before .before in (omega arith, settling-start (s .pre .0) (s .pre .1) (omega arith))
+
+entry-at-requires : tie.Need-entry-at-requires Inv-loop μ-loop
+entry-at-requires c κs =
+    let turn = c .before .before .before .before .loop in
+    let settling = turn .inv .1 in
+    let positive = c .before .before .before .loop-test .taken in
+    (omega (arith, settling .few, turn .inv .0), settling .enough)
 
 sift-down-requires : tie.Need-sift-down-requires Inv-loop μ-loop
 sift-down-requires c κs =
-    let turn = c .before .before in
-    let given = turn .before .before .before .args in
-    (turn .loop .inv .0 .slotted, heap-higher (rankAt (given .v) (given .f) (turn .loop .w) (given .q .now)) (omega arith) (turn .loop .inv .1))
+    let turn = c .before .before .before .before .before .before .before .before .loop in
+    let a = c .before .before .before .before .before .before .before .before .before .before .before .before .args in
+    let settling = turn .inv .1 in
+    let positive = c .before .before .before .before .before .before .before .loop-test .taken in (
+      record { enough = settling .enough; few = settling .few; inside = omega (arith, settling .few, turn .inv .0) },
+      heap-higher (ranks (entryIn (a .v) (a .f) (turn .w) (turn .p) (turn .q))) (omega arith) (settling .ordered),
+    )
 
 loop-again : tie.Need-loop-again Inv-loop μ-loop
 loop-again c =
-    let sifted = c .before .before in
-    let turn = sifted .before .before .before .loop in
-    (sifting-then (turn .inv .0) (sifted .sift-down .ensures .0), sifted .sift-down .ensures .1)
+    let turn = c .before .before .before .before .before .before .before .before .before .before .before .before .before .before .before .loop in
+    (omega (arith, turn .inv .0), settling-turn (turn .inv .1) (c .before .before .before .before .before .before .before .before .before .before .entry-at .ensures) (c .before .before .before .before .before .before .sift-down .ensures))
 
 same-length : tie.Need-same-length Inv-loop μ-loop
-same-length c = c .before .loop .inv .0 .sifted .but .same-length
+same-length c = c .before .loop .inv .1 .only .but .same-length
+
+same-length-2 : tie.Need-same-length-2 Inv-loop μ-loop
+same-length-2 c = c .before .loop .inv .1 .only .points-but .same-length
+
+same-length-3 : tie.Need-same-length-3 Inv-loop μ-loop
+same-length-3 c = c .before .loop .inv .1 .only .quadrics-but .same-length
 
 returns : tie.Need-returns Inv-loop μ-loop
-returns c =
-    let end = c .before in
-    let given = end .before .before .before .args in
-    (end .loop .inv .0 .sifted, heap-higher (rankAt (given .v) (given .f) (end .loop .w) (given .q .now)) (omega arith) (end .loop .inv .1))
+returns c = settling-end (omega (arith, c .loop-test .left)) (c .before .loop .inv .1)
 
 pub settle-spec : {M : Type 1} → statement M
 settle-spec =
@@ -47,10 +59,14 @@ settle-spec =
     (tie.spec
     Inv-loop
     μ-loop
+    (λ c. search needs)
     loop-holds
     (λ c. search needs)
+    entry-at-requires
     sift-down-requires
     (λ c. search needs)
     loop-again
     same-length
+    same-length-2
+    same-length-3
     returns)
