@@ -1,6 +1,6 @@
 -- The heap walk as a walk: its state is read off the current entries of the queue, and is held where only the cells of the folds change.
 -- Assumes nothing.
-use Prim.Native.Nat.{ℕ, _+_, _^_, _≤_, _<_}
+use Prim.Native.Nat.{ℕ, _+_, _≤_}
 use native.Mathlib.Omega.{arith}
 use mathlib.Core.Path.{_≡_, refl, sym, ap, _∙_}
 use mathlib.Core.List.{List}
@@ -106,8 +106,3 @@ module _ {v f : ℕ} {w w₁ : List ℕ} {p q p₁ q₁ : List Float} {n : ℕ} 
   pub walk-done : {target : ℕ} {w' : List ℕ} {p' q' : List Float} {r : Walked} →
       WalkedFrom v f (heapState v f w₁ p₁ q₁ n) w₁ p₁ q₁ target limit bound w' p' q' r → WalkDone v f w p q target limit bound w' p' q' r
   walk-done = walked-whole (byHeap v f bound) (moment w₁ p₁ q₁ n f) start-holds start-state start-within
-
--- ---- how many entries there are
-
-pub few-entries : {v f : ℕ} {w : List ℕ} {p q : List Float} {n live : ℕ} {bound : Float} → HeapHolds v f w p q n live bound → n < 2 ^ 32
-few-entries h = omega (arith, h .«open» .queue .few, h .«open» .queue .enough .room .faces-few)

@@ -4,21 +4,43 @@ ghost use mathlib.Core.List.{[], _∷_};
 ghost use lib.ListN.{length};
 ghost use Rattle.walk.specs.Walk.{started};
 ghost use Rattle.mesh.specs.Contracts.Chains.{Tidy};
-ghost use Rattle.memory.specs.Points.{meshOf};
+ghost use Rattle.memory.specs.Points.{vertexAt, meshOf};
+ghost use mathlib.Core.Path.{_≡_};
 ghost use Rattle.meaning.specs.Arithmetic.{rulesOf};
 ghost use Rattle.openpairs.specs.Contracts.Edges.{openedAround};
 ghost use Rattle.queue.specs.State.{openIn};
 ghost use Rattle.memory.specs.Memory.{aroundIn};
 ghost use Rattle.heapwalk.specs.Contracts.Entering.{Open, Entered, Started};
-ghost use Rattle.heapwalk.specs.Contracts.Listing.{pairsWith, Enterable, EnteredBeside};
+ghost use Rattle.heapwalk.specs.Contracts.Listing.{pairsWith, listedOr, ListedPoints, Enterable, EnteredBeside};
 ghost use Rattle.memory.specs.Layout.{costsTo, placesTo};
 use memory::vertex_at;
 use placement::Bounds;
 use placement::Fold;
 use placement::pair::Candidate;
+use placement::pair::Vertex;
 use placement::pair::pair_candidate;
 
-// Opens x with y where the pair is eligible. Says how many entries there are.
+// What the listed point after i others carries, and what x carries where there is none.
+fn vertex_ahead(
+    w: &[u32],
+    p: &[f32],
+    q: &[f64],
+    v: usize,
+    f: usize,
+    count: usize,
+    x: u32,
+    i: usize,
+) -> Vertex
+    requires { ⌜ ListedPoints v f (now w) count x ⌝ ∗ ⌜ 3 * v ≤ length (now p) ⌝ ∗ ⌜ 10 * v ≤ length (now q) ⌝ }
+    ensures { λ r. ⌜ r ≡ vertexAt v f (now (w .entry)) (now (p .entry)) (now (q .entry)) (listedOr v f (now (w .entry)) count x i) ⌝ }
+{
+    if i < count {
+        return vertex_at(w, p, q, v, f, memory::around_at(w, v, f, i) as usize);
+    }
+    vertex_at(w, p, q, v, f, x as usize)
+}
+
+// Opens x with y, which carries what is said, where the pair is eligible. Says how many entries there are.
 fn enter_pair(
     w: &mut [u32],
     p: &mut [f32],
@@ -28,13 +50,13 @@ fn enter_pair(
     n: usize,
     x: u32,
     y: u32,
+    goes: Vertex,
     bounds: Bounds,
 ) -> usize
-    requires { ⌜ Enterable v f (now w) (now p) (now q) n (bounds .limit) (bounds .size) x (y ∷ []) ⌝ }
+    requires { ⌜ Enterable v f (now w) (now p) (now q) n (bounds .limit) (bounds .size) x (y ∷ []) ⌝ ∗ ⌜ goes ≡ vertexAt v f (now w) (now p) (now q) y ⌝ }
     ensures { λ r. ⌜ EnteredBeside v f (now (w .entry)) (now (p .entry)) (now (q .entry)) n (bounds .limit) (bounds .size) (pairsWith v f (now (w .entry)) (now (p .entry)) (now (q .entry)) (bounds .limit) (bounds .size) x (y ∷ [])) (now (w .exit)) (now (p .exit)) (now (q .exit)) r ⌝ }
 {
     let stays = vertex_at(w, p, q, v, f, x as usize);
-    let goes = vertex_at(w, p, q, v, f, y as usize);
     let limit = bounds.limit;
     match pair_candidate(stays, goes, limit, bounds.size) {
         Candidate::Eligible(cost, place) => {
@@ -49,7 +71,8 @@ fn enter_pair(
     }
 }
 
-// Opens x with each of the points that are listed, where the pair is eligible. Says how many entries there are.
+// Opens x with each of the points that are listed, where the pair is eligible. Says how many entries there are. What a point carries lies far from what
+// the one before it carries, so it is read while that one's pair is worked out.
 fn enter_listed(
     w: &mut [u32],
     p: &mut [f32],
@@ -65,10 +88,13 @@ fn enter_listed(
     ensures { λ r. ⌜ EnteredBeside v f (now (w .entry)) (now (p .entry)) (now (q .entry)) n (bounds .limit) (bounds .size) (pairsWith v f (now (w .entry)) (now (p .entry)) (now (q .entry)) (bounds .limit) (bounds .size) x (aroundIn v f (now (w .entry)) count)) (now (w .exit)) (now (p .exit)) (now (q .exit)) r ⌝ }
 {
     let mut entries = n;
+    let mut goes = vertex_ahead(w, p, q, v, f, count, x, 0);
     let mut i = 0;
     while i < count {
         let y = memory::around_at(w, v, f, i);
-        entries = enter_pair(w, p, q, v, f, entries, x, y, bounds);
+        let next = vertex_ahead(w, p, q, v, f, count, x, i + 1);
+        entries = enter_pair(w, p, q, v, f, entries, x, y, goes, bounds);
+        goes = next;
         i += 1;
     }
     entries

@@ -19,8 +19,8 @@ taken c =
 
 returns : tie.Need-returns
 returns c =
-    let s = c .before .before .before .before in
-    at-target (s .pre) (s .args .target) (s .args .bounds .limit) (omega (arith, c .if1 .taken))
+    let s = c .before .before .before .before .before in
+    rw (c .ended .ensures) (at-target (s .pre) (s .args .target) (s .args .bounds .limit) (omega (arith, c .before .if1 .taken)))
 
 take-first-requires : tie.Need-take-first-requires
 take-first-requires c κs =
@@ -38,28 +38,49 @@ returns-2 c =
     let s = c .before .before .before .before .before .before .before .before .before .before .before .before .before .before .before .before .before .before .before .before .before .before .before .before .before .before .before .before .before in
     taken-step (s .pre) (s .args .target) (s .args .bounds .limit) (taken (done .before)) (omega (arith, c .before .before .before .before .before .before .before .before .before .before .before .before .before .before .before .before .before .before .before .before .before .before .before .before .before .if1 .left)) (done .try-pair .ensures)
 
+same-length : tie.Need-same-length
+same-length c = returns-2 c .tied .within .but .same-length
+
+same-length-2 : tie.Need-same-length-2
+same-length-2 c = returns-2 c .tied .within .same-length-p
+
+same-length-3 : tie.Need-same-length-3
+same-length-3 c = returns-2 c .tied .within .same-length-q
+
 returns-3 : tie.Need-returns-3
 returns-3 c =
-    let took = c .before .before .before .before .before .before .before .before .take-first in
-    let s = c .before .before .before .before .before .before .before .before .before .before .before .before .before .before .before .before in
-    none-left (s .pre) (s .args .target) (s .args .bounds .limit)
-    (took-none (took .last .0) (took .last .1 .0) (took .last .1 .1 .0) (c .enum-told .given .1) (took .ensures))
-    (omega (arith, c .before .before .before .before .before .before .before .before .before .before .before .before .if1 .left))
+    let took = c .before .before .before .before .before .before .before .before .before .take-first in
+    let s = c .before .before .before .before .before .before .before .before .before .before .before .before .before .before .before .before .before in
+    rw (c .ended2 .ensures)
+    (none-left (s .pre) (s .args .target) (s .args .bounds .limit)
+    (took-none (took .last .0) (took .last .1 .0) (took .last .1 .1 .0) (c .before .enum-told .given .1) (took .ensures))
+    (omega (arith, c .before .before .before .before .before .before .before .before .before .before .before .before .before .if1 .left)))
+
+same-length-4 : tie.Need-same-length-4
+same-length-4 c = returns-3 c .tied .within .but .same-length
+
+same-length-5 : tie.Need-same-length-5
+same-length-5 c = returns-3 c .tied .within .same-length-p
+
+same-length-6 : tie.Need-same-length-6
+same-length-6 c = returns-3 c .tied .within .same-length-q
 
 pub heap-step-spec : {M : Type 1} → statement M
 heap-step-spec =
     tie.close
     (tie.spec
+    (λ c κs. search needs)
     returns
     take-first-requires
     (λ c. search needs)
     try-pair-requires
     (λ c. search needs)
-    (λ c. search needs)
-    (λ c. search needs)
-    (λ c. search needs)
+    (λ c κs. search needs)
+    same-length
+    same-length-2
+    same-length-3
     returns-2
-    (λ c. search needs)
-    (λ c. search needs)
-    (λ c. search needs)
+    same-length-4
+    same-length-5
+    same-length-6
     returns-3)

@@ -5,15 +5,15 @@ use Rattle.heapwalk.proofs.room_next.Statement.{statement}
 use Rattle.heapwalk.proofs.room_next.Tie as tie
 
 returns : tie.Need-returns
-returns c = rw (c .before .if1 .taken) (c .room-after .ensures)
+returns c = rw (c .if1 .taken) refl
 
 returns-2 : tie.Need-returns-2
-returns-2 c = rw (c .if1 .left) refl
+returns-2 c = rw (c .before .if1 .left) (c .more-than .ensures)
 
 pub room-next-spec : {M : Type 1} → statement M
 room-next-spec =
     tie.close
     (tie.spec
-    (λ c κs. search needs)
     returns
+    (λ c κs. search needs)
     returns-2)

@@ -11,38 +11,33 @@ use Rattle.heapwalk.proofs.EnterLaws.{one-point, one-place, entered-one
 use Rattle.heapwalk.proofs.entering.enter_pair.Statement.{statement}
 use Rattle.heapwalk.proofs.entering.enter_pair.Tie as tie
 
-vertex-at-requires-2 : tie.Need-vertex-at-requires-2
-vertex-at-requires-2 c κs =
-    let ready = c .before .before .before .before .before .before .before .before .before .before .pre in
+vertex-at-requires : tie.Need-vertex-at-requires
+vertex-at-requires c κs =
+    let ready = c .before .before .before .before .before .before .pre .0 in
     let held = ready .«open» in (
-      omega (arith, held .tidy .room .long, one-point ready),
-      (omega (arith, held .queue .enough .places-long, one-point ready), omega (arith, held .queue .enough .costs-long, one-point ready)),
+      omega (arith, held .tidy .room .long, ready .point),
+      (omega (arith, held .queue .enough .places-long, ready .point), omega (arith, held .queue .enough .costs-long, ready .point)),
     )
-
--- the function's entry, from where the candidate is known
-abbrev entry : tie.After-pair-candidate → tie.Start
-entry c = c .before .before .before .before .before .before .before .before .before .before .before .before
 
 -- the candidate is that of the two points in memory
 candidate : (c : tie.After-pair-candidate) →
-    let given = entry c .args in
+    let given = c .before .before .before .before .before .before .before .before .args in
     c .pair-candidate .result
     ≡ pairCandidate (given .bounds .limit) (given .bounds .size)
     (vertexAt (given .v) (given .f) (given .w .now) (given .p .now) (given .q .now) (given .x))
     (vertexAt (given .v) (given .f) (given .w .now) (given .p .now) (given .q .now) (given .y))
 candidate c =
-    let given = entry c .args in
+    let s = c .before .before .before .before .before .before .before .before in
     c .pair-candidate .ensures
-    ∙ ap₂ (pairCandidate (given .bounds .limit) (given .bounds .size))
-    (c .before .before .before .before .before .vertex-at .ensures) (c .before .vertex-at2 .ensures)
+    ∙ ap₂ (pairCandidate (s .args .bounds .limit) (s .args .bounds .size)) (c .before .vertex-at .ensures) (s .pre .1)
 
 push-requires : tie.Need-push-requires
 unfolding fits
 push-requires c κs =
     let found = c .before .before .before .before in
-    let ready = entry (found .before .before) .pre in
+    let ready = c .before .before .before .before .before .before .before .before .before .before .before .before .before .before .pre .0 in
     let held = ready .«open» in
-    let same = candidate-eligible _ _ _ _ _ _ (sym (found .cost .given .1) ∙ candidate (found .before .before)) in
+    let same = candidate-eligible _ _ _ _ _ _ (sym (found .cost .given .1) ∙ candidate (c .before .before .before .before .before .before)) in
     let other = one-point ready in (
       held .queue,
       (
@@ -54,25 +49,23 @@ push-requires c κs =
 returns : tie.Need-returns
 unfolding fits
 returns c =
-    let pushed = c .before .before .before .before .before .before in
-    let found = pushed .before .before .before .before .before in
-    let start = entry (found .before .before) in
-    let ready = start .pre in
-    let same = candidate-eligible _ _ _ _ _ _ (sym (found .cost .given .1) ∙ candidate (found .before .before)) in
-    entered-one ready (same .0) (same .1) (same .2) (pushed .push .ensures .0) (pushed .push .ensures .1 (start .args .bounds .size) (ready .«open» .kept) (same .1) (same .2))
+    let found = c .before .before .before .before .before .before .before .before .before .before .before in
+    let start = c .before .before .before .before .before .before .before .before .before .before .before .before .before .before .before .before .before .before .before .before .before in
+    let ready = start .pre .0 in
+    let pushed = c .before .before .before .before .before .before .push .ensures in
+    let same = candidate-eligible _ _ _ _ _ _ (sym (found .cost .given .1) ∙ candidate (c .before .before .before .before .before .before .before .before .before .before .before .before .before)) in
+    entered-one ready (same .0) (same .1) (same .2) (pushed .0) (pushed .1 (start .args .bounds .size) (ready .«open» .kept) (same .1) (same .2))
 
 returns-2 : tie.Need-returns-2
 unfolding fits
 returns-2 c =
-    let asked = c .before .before in
-    entered-not (entry asked .pre) (candidate-none _ _ _ _ (sym (c .enum-told .given .1) ∙ candidate asked))
+    entered-not (c .before .before .before .before .before .before .before .before .before .before .pre .0) (candidate-none _ _ _ _ (sym (c .enum-told .given .1) ∙ candidate (c .before .before)))
 
 pub enter-pair-spec : {M : Type 1} → statement M
 enter-pair-spec =
     tie.close
     (tie.spec
-    (λ c κs. search needs)
-    vertex-at-requires-2
+    vertex-at-requires
     (λ c κs. search needs)
     (λ c. search needs)
     push-requires
