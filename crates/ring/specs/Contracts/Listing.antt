@@ -1,4 +1,4 @@
--- The points around a point, listed in the lent u32 memory: at most V of them, in the cells from 15F + 4V on.
+-- The points around a point, listed in the lent u32 memory: at most V of them.
 use Prim.Native.Nat.{ℕ}
 use mathlib.Core.Path.{_≡_}
 use mathlib.Core.List.{List}
