@@ -3,7 +3,7 @@
 use Prim.Native.Nat.{ℕ, _+_, _*_, _<_}
 use native.Mathlib.Nat.{add-zero}
 use native.Mathlib.Omega.{arith}
-use mathlib.Core.Path.{_≡_, ap, ap₂, _∙_}
+use mathlib.Core.Path.{_≡_, ap₂}
 use mathlib.Core.Logic.{_≢_}
 use mathlib.Core.List.{List}
 use lib.Ieee.{Float, nan}
@@ -12,11 +12,10 @@ use lib.Seq.{sets, length-sets, getD-set-same, getD-set-other, drop-set-lt}
 use Rattle.lists.specs.Frames.{But, FloatsBut}
 use Rattle.lists.proofs.FrameLaws.{but-refl, but-then, floats-refl, floats-then}
 use Rattle.lists.proofs.StoredLaws.{stored-at, stored-other}
-use Rattle.walk.specs.declared.Pair.{Pair}
 use Rattle.walk.specs.Pairs.{pairOf}
 use Rattle.memory.specs.declared.entries.Entry.{Entry}
 use Rattle.memory.specs.Points.{withPoint, pointParts}
-use Rattle.memory.specs.Entries.{entryIn, entryWords, EntryRoom, EntriesOnly, EntrySet}
+use Rattle.memory.specs.Entries.{entryWords, EntryRoom, EntriesOnly, EntrySet}
 use Rattle.memory.specs.Layout.{costsFrom, costsTo, entriesFrom, nearFrom, placesFrom, placesTo}
 use Rattle.memory.proofs.PointLaws.{point-stored}
 

@@ -1,6 +1,6 @@
 -- The queue at the start: the stamps are cleared.
 -- Assumes nothing.
-use Prim.Native.Nat.{ℕ, _+_, zero-le}
+use Prim.Native.Nat.{ℕ, zero-le}
 use native.Mathlib.Omega.{arith}
 use mathlib.Core.List.{List}
 use lib.Ieee.{Float}

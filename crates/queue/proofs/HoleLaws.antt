@@ -19,8 +19,8 @@ use Rattle.openpairs.specs.Contracts.Ranks.{rank}
 use Rattle.openpairs.specs.declared.pairs.Ranked.{Ranked}
 use Rattle.queue.specs.Stored.{entriesIn, rankedOf, entryRank}
 use Rattle.queue.specs.Contracts.Ranks.{rankedIn, rankIn, over, Heap, LowestUnder}
-use Rattle.queue.specs.Contracts.Order.{filled, ranks, Shuffled, Holed, Sunk, Sifted}
-use Rattle.queue.proofs.HeapLaws.{Exchanged, by-same, Rising, Sinking, rising-start, rising-done, rising-over, sinking-start, sinking-done, sinking-stop, sinking-turn}
+use Rattle.queue.specs.Contracts.Order.{filled, ranks, Shuffled, Sunk, Sifted}
+use Rattle.queue.proofs.HeapLaws.{Exchanged, by-same, Rising, Sinking, rising-start, rising-over, sinking-start, sinking-turn}
 
 -- ---- what stands where
 

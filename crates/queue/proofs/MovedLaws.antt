@@ -1,18 +1,17 @@
 -- What the queue hangs on. Where the entries stay, and some points are touched, so that their stamps grow by one and what they carry changes, an entry of a
 -- touched point is old after that, and every other entry is as it was.
 -- Assumes nothing.
-use Prim.Native.Nat.{ℕ, _+_, _*_, _-_, _/_, _≤_, _<_}
+use Prim.Native.Nat.{ℕ, _+_, _*_, _≤_, _<_}
 use native.Mathlib.Nat.{add-zero}
 use native.Mathlib.Omega.{arith}
 use mathlib.Core.Path.{_≡_, refl, sym, ap, ap₂, subst, _∙_}
 use mathlib.Core.List.{List}
-use mathlib.Core.Bool.{Bool, true, false, not, _&&_, cond, and-true}
+use mathlib.Core.Bool.{Bool, true, false, _&&_, cond}
 use mathlib.Mathlib.Data.Bool.Basic.{and-elim-left, and-elim-right}
 use lib.Dec.{ltb, eqb}
 use lib.Ieee.{Float}
 use lib.ListN.{length}
 use borrow.Author.Tests.{not-true, ltb-true}
-use Rattle.walk.specs.declared.Pair.{Pair}
 use Rattle.walk.specs.Pairs.{pairOf}
 use Rattle.walk.proofs.PairLaws.{spared}
 use Rattle.placement.specs.Pairs.{pairPlace, pairCost}

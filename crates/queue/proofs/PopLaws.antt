@@ -1,12 +1,12 @@
 -- The entry on top is taken off: the last one is let down from there.
 -- Assumes nothing.
-use Prim.Native.Nat.{ℕ, _+_, _-_, _*_, _≤_, _<_}
+use Prim.Native.Nat.{ℕ, _+_, _-_, _<_}
 use native.Mathlib.Numerals.{add-one}
 use native.Mathlib.Omega.{arith}
-use mathlib.Core.Path.{_≡_, sym, ap, subst, _∙_}
-use mathlib.Core.List.{List, [], _∷_, _++_}
+use mathlib.Core.Path.{_≡_, sym, ap, _∙_}
+use mathlib.Core.List.{List}
 use lib.Ieee.{Float}
-use Rattle.lists.specs.Lists.{sum, below, SameBag}
+use Rattle.lists.specs.Lists.{sum, below}
 use Rattle.lists.proofs.BelowLaws.{sum-below, sum-changed}
 use Rattle.memory.specs.declared.entries.Entry.{Entry}
 use Rattle.memory.specs.Entries.{entryIn}

@@ -4,8 +4,8 @@
 use Prim.Native.Nat.{ℕ, _+_, _*_, _≤_, _<_}
 use native.Mathlib.Omega.{arith}
 use native.Mathlib.Numerals.{add-one}
-use mathlib.Core.Path.{_≡_, refl, sym, ap, ap₂, subst, _∙_}
-use mathlib.Core.List.{List, [], _∷_, _++_, map, map-append}
+use mathlib.Core.Path.{_≡_, sym, ap, ap₂, subst, _∙_}
+use mathlib.Core.List.{List, [], _∷_, _++_, map-append}
 use mathlib.Core.Bool.{Bool, true, not, _&&_, cond}
 use lib.Dec.{eqb}
 use lib.Ieee.{Float}
@@ -14,7 +14,7 @@ use Rattle.placement.specs.Pairs.{pairPlace, pairCost}
 use Rattle.walk.specs.declared.Pair.{Pair}
 use Rattle.lists.specs.Frames.{But}
 use Rattle.lists.specs.Lists.{sum, those, every, below}
-use Rattle.lists.proofs.SumLaws.{sum-append, sum-map, sum-those, sum-length}
+use Rattle.lists.proofs.SumLaws.{sum-append, sum-map, sum-those}
 use Rattle.lists.proofs.BelowLaws.{getD-each, length-each, map-same-below, sum-same-below, every-each, every-below}
 use Rattle.lists.proofs.PartLaws.{sum-failed}
 use Rattle.memory.specs.declared.entries.Entry.{Entry}

@@ -1,12 +1,12 @@
 -- An entry is put in: what becomes of the entries, of the open pairs, and of what the entries know.
 -- Assumes nothing.
-use Prim.Native.Nat.{ℕ, _+_, _*_, _≤_, _<_}
+use Prim.Native.Nat.{ℕ, _+_, _<_}
 use native.Mathlib.Nat.{add-zero, le-refl}
 use native.Mathlib.Numerals.{add-one}
 use native.Mathlib.Omega.{arith}
 use mathlib.Core.Path.{_≡_, refl, sym, ap, ap₂, subst, _∙_}
-use mathlib.Core.List.{List, [], _∷_, _++_}
-use mathlib.Core.Bool.{Bool, true, _&&_, cond}
+use mathlib.Core.List.{List, [], _∷_}
+use mathlib.Core.Bool.{true}
 use mathlib.Mathlib.Data.Bool.Basic.{and-intro}
 use lib.Ieee.{Float}
 use borrow.Author.Tests.{eq-eqb}
@@ -14,7 +14,7 @@ use Rattle.geometry.specs.declared.Point.{Point}
 use Rattle.placement.specs.Pairs.{pairPlace, pairCost}
 use Rattle.walk.specs.declared.Pair.{Pair}
 use Rattle.walk.specs.Pairs.{pairOf}
-use Rattle.lists.specs.Lists.{sum, below, SameBag}
+use Rattle.lists.specs.Lists.{sum, below}
 use Rattle.lists.proofs.SumLaws.{sum-append}
 use Rattle.lists.proofs.BelowLaws.{sum-below, sum-same-below}
 use Rattle.memory.specs.declared.entries.Entry.{Entry}
@@ -23,12 +23,12 @@ use Rattle.memory.specs.Entries.{entryIn, stamp, EntriesOnly}
 use Rattle.memory.proofs.EntryLaws.{only-then, room-only}
 use Rattle.queue.specs.State.{openIn}
 use Rattle.queue.specs.Stored.{stampsOf, entriesIn, Requeued}
-use Rattle.queue.specs.Contracts.Order.{filled, Shuffled, Sifted}
-use Rattle.queue.specs.Contracts.Queued.{Queue, Named, QueueNamed, isPresent, EntryKept, Kept}
+use Rattle.queue.specs.Contracts.Order.{filled, Sifted}
+use Rattle.queue.specs.Contracts.Queued.{Named, QueueNamed, isPresent, EntryKept, Kept}
 use Rattle.queue.specs.Contracts.Changes.{RoomMade, entryOf, Pushed}
 use Rattle.queue.proofs.HeapLaws.{by-same}
 use Rattle.queue.proofs.HoleLaws.{filled-here, filled-other, entries-sum}
-use Rattle.queue.proofs.PresentLaws.{stamp-only, present-only, kept-only, named-were, weighed, open-sum, weighed-were}
+use Rattle.queue.proofs.PresentLaws.{stamp-only, kept-only, named-were, weighed, open-sum, weighed-were}
 use Rattle.queue.proofs.TakeLaws.{old-gone-open}
 
 -- the entry of a pair with the stamps of before

@@ -1,7 +1,7 @@
 -- A heap is made of entries in any order: from the last place that has some under it to the first, each is let down.
 -- Assumes nothing.
 use Prim.Native.Nat.{ℕ, _+_, _*_, _≤_}
-use mathlib.Core.Path.{_≡_, refl, sym, ap, subst, _∙_}
+use mathlib.Core.Path.{_≡_, refl, ap, subst, _∙_}
 use mathlib.Core.List.{List}
 use lib.Ieee.{Float}
 use Rattle.memory.specs.declared.entries.Entry.{Entry}

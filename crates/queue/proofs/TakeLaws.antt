@@ -1,6 +1,6 @@
 -- Entries are taken off the top up to the first current one: what holds before each turn, and what a turn does.
 -- Assumes nothing.
-use Prim.Native.Nat.{ℕ, _+_, _*_, _-_, _≤_, _<_}
+use Prim.Native.Nat.{ℕ, _+_, _-_}
 use native.Mathlib.Nat.{le-refl}
 use native.Mathlib.Omega.{arith}
 use mathlib.Core.Path.{_≡_, refl, sym, ap, subst, _∙_}
@@ -12,7 +12,7 @@ use lib.ListN.{length}
 use lib.Ieee.{Float}
 use borrow.Author.Tests.{le-leb, lt-ltb, ltb-true, not-false}
 use Rattle.walk.specs.declared.Pair.{Pair}
-use Rattle.lists.specs.Lists.{sum, every, SameBag}
+use Rattle.lists.specs.Lists.{sum, every}
 use Rattle.lists.proofs.SumLaws.{sum-append, sum-length}
 use Rattle.lists.proofs.BagLaws.{bag-refl, bag-every}
 use Rattle.lists.proofs.EveryLaws.{every-append, every-cons, every-tail, every-both, every-implies}
@@ -22,10 +22,10 @@ use Rattle.memory.specs.declared.entries.Entry.{Entry}
 use Rattle.memory.specs.Entries.{entryIn}
 use Rattle.memory.proofs.EntryLaws.{only-refl, only-then}
 use Rattle.queue.specs.State.{openIn}
-use Rattle.queue.specs.Stored.{stampsOf, entriesIn, isOld, entryRank, LeastCurrent}
+use Rattle.queue.specs.Stored.{stampsOf, entriesIn, isOld, entryRank}
 use Rattle.queue.specs.Contracts.Queued.{Queue, Named, QueueNamed, isPresent}
-use Rattle.queue.specs.Contracts.Changes.{Was, Were, Fewer, Popped, TakenOff, NoneLeft}
-use Rattle.queue.proofs.PresentLaws.{present-old, stamps-only, present-only, named-were, entries-every, weighed, open-sum, fewer-open, old-weigh}
+use Rattle.queue.specs.Contracts.Changes.{Was, Fewer, Popped, TakenOff, NoneLeft}
+use Rattle.queue.proofs.PresentLaws.{present-old, present-only, entries-every, weighed, open-sum, fewer-open, old-weigh}
 
 -- ---- some are queued no more
 

@@ -22,12 +22,12 @@ use Rattle.queue.specs.State.{openIn}
 use Rattle.queue.specs.Stored.{stampsOf, entriesIn, isOld, entryRank}
 use Rattle.queue.specs.Contracts.Order.{Settled}
 use Rattle.queue.specs.Contracts.Queued.{Queue, Named, QueueNamed, isPresent}
-use Rattle.queue.specs.Contracts.Changes.{Was, Were, Fewer, CurrentFirst, ThrownOut, RoomMade, TakenOff, NoneLeft, TookCurrent}
+use Rattle.queue.specs.Contracts.Changes.{Were, Fewer, CurrentFirst, ThrownOut, RoomMade, TookCurrent}
 use Rattle.queue.specs.declared.Taken.{Taken}
 use Rattle.queue.specs.declared.Taken.the-variants.{Found, Empty}
 use Rattle.queue.proofs.HeapLaws.{by-same}
 use Rattle.queue.proofs.HoleLaws.{entries-sum, shuffled-bag}
-use Rattle.queue.proofs.PresentLaws.{present-old, stamps-only, present-only, named-were, entries-length, entries-more, entries-same, weighed, open-sum}
+use Rattle.queue.proofs.PresentLaws.{present-old, stamps-only, present-only, entries-length, entries-more, entries-same, weighed, open-sum}
 use Rattle.queue.proofs.TakeLaws.{fewer-none, fewer-then, was-before}
 
 -- the test of what stays

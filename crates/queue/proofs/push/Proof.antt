@@ -1,5 +1,4 @@
 -- `queue::push` meets its contract: room is made, and the entry rises to its place, by the laws of PushLaws. Assumes nothing.
-use Prim.Native.Nat.{_<_}
 use native.Mathlib.Omega.{arith}
 use mathlib.Core.Path.{_≡_, _∙_}
 use borrow.Author.Needs.{needs}

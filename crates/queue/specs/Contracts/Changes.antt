@@ -2,7 +2,7 @@
 use Prim.Native.Nat.{ℕ, _+_, _*_, _-_, _≤_, _<_}
 use mathlib.Core.Path.{_≡_}
 use mathlib.Core.List.{List, [], _∷_, _++_}
-use mathlib.Core.Bool.{true, false, not}
+use mathlib.Core.Bool.{true, not}
 use lib.Ieee.{Float}
 use Rattle.walk.specs.declared.Pair.{Pair}
 use Rattle.geometry.specs.declared.Point.{Point}

@@ -1,7 +1,7 @@
 -- `heapwalk::entering::vertex_ahead` meets its contract: each arm is one of its definition.
 -- Assumes nothing.
 use native.Mathlib.Omega.{arith}
-use mathlib.Core.Path.{_≡_, sym, ap, _∙_}
+use mathlib.Core.Path.{ap, _∙_}
 use borrow.Author.Needs.{needs}
 use borrow.Author.Tests.{lt-ltb, le-ltb}
 use Rattle.memory.specs.Points.{vertexAt}

@@ -1,7 +1,6 @@
 -- `queue::order::least_under` meets its contract: three comparisons find the lowest of four.
 -- Assumes nothing.
 use Prim.Native.Nat.{ℕ, _+_, _*_}
-use native.Mathlib.Omega.{arith}
 use borrow.Author.Needs.{needs}
 use Rattle.queue.specs.Contracts.Ranks.{rankIn}
 use Rattle.queue.proofs.HeapLaws.{Lower, first-lower, lowest-found}

@@ -1,6 +1,6 @@
 -- `queue::order::rise` meets its contract. The loop's invariant: the entries are in another order, and make a heap but that the one of the hole may
 -- come before the one over it. The measure is the hole. Assumes nothing.
-use Prim.Native.Nat.{_+_, _<_}
+use Prim.Native.Nat.{_+_}
 use native.Mathlib.Omega.{arith}
 use mathlib.Core.Logic.{_≢_}
 use borrow.Author.Needs.{needs}

@@ -5,7 +5,7 @@ use native.Mathlib.Omega.{arith}
 use borrow.Author.Needs.{needs}
 use Rattle.memory.specs.Entries.{entryIn}
 use Rattle.queue.specs.Contracts.Order.{ranks}
-use Rattle.queue.proofs.HeapLaws.{heap-quarters, heap-higher}
+use Rattle.queue.proofs.HeapLaws.{heap-higher}
 use Rattle.queue.proofs.SettleLaws.{Settling, settling-start, settling-turn, settling-end}
 use Rattle.queue.proofs.order.settle.Statement.{statement}
 use Rattle.queue.proofs.order.settle.Tie as tie

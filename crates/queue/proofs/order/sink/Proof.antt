@@ -1,6 +1,6 @@
 -- `queue::order::sink` meets its contract. The loop's invariant: the entries are in another order, and make a heap but that the one of the hole may
 -- come after those under it. The measure is how many places are under it. Assumes nothing.
-use Prim.Native.Nat.{ℕ, _+_, _-_, _*_, _<_}
+use Prim.Native.Nat.{_-_, _<_}
 use native.Mathlib.Omega.{arith}
 use mathlib.Core.Logic.{_≢_}
 use borrow.Author.Needs.{needs}
