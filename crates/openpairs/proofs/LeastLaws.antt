@@ -6,7 +6,6 @@ use native.Mathlib.Omega.{arith}
 use mathlib.Core.Path.{_≡_, sym, ap, ap₂, _∙_}
 use mathlib.Core.List.{List}
 use mathlib.Core.Bool.{true, false}
-use lib.IntN.{ℤ}
 use lib.Dec.{ltb}
 use lib.Ieee.{Float}
 use borrow.Author.Count.{below-more}
@@ -19,19 +18,19 @@ use Rattle.memory.specs.Points.{meshOf}
 use Rattle.meaning.specs.Arithmetic.{rulesOf}
 use Rattle.openpairs.specs.declared.pairs.Ranked.{Ranked}
 use Rattle.memory.specs.Entries.{pairAt}
-use Rattle.openpairs.specs.Contracts.Ranks.{keyAt, placeAt, rankedAt, rank}
+use Rattle.openpairs.specs.Contracts.Ranks.{costAt, placeAt, rankedAt, rank}
 use Rattle.openpairs.specs.Contracts.Changes.{Named, LeastAt}
 use Rattle.memory.proofs.MeshLaws.{mesh-point}
 
 module _ (v f : ℕ) (w : List ℕ) (p q : List Float) (bound : Float) (i : ℕ) where
   -- what is read of the pair in a place, part by part
-  pub ranked-is : {key : ℤ} {keep remove : ℕ} →
-      keep ≡ pairAt v f w i .keep → remove ≡ pairAt v f w i .remove → key ≡ keyAt v f w p q bound keep remove →
-      _≡_ {A = Ranked} (record { at = i; key = key; keep = keep; remove = remove }) (rankedAt v f w p q bound i)
+  pub ranked-is : {cost : Float} {keep remove : ℕ} →
+      keep ≡ pairAt v f w i .keep → remove ≡ pairAt v f w i .remove → cost ≡ costAt v f w p q bound keep remove →
+      _≡_ {A = Ranked} (record { at = i; cost = cost; keep = keep; remove = remove }) (rankedAt v f w p q bound i)
   unfolding rankedAt
   ranked-is e d k =
-      let same-key = k ∙ ap₂ (keyAt v f w p q bound) e d in
-      λ t. record { at = i; key = same-key t; keep = e t; remove = d t }
+      let same-cost = k ∙ ap₂ (costAt v f w p q bound) e d in
+      λ t. record { at = i; cost = same-cost t; keep = e t; remove = d t }
 
   -- its rank is its place in the walk's order
   pub order-rank : (limit : Limit) → pairAt v f w i .keep < v → pairAt v f w i .remove < v →

@@ -1,16 +1,20 @@
--- The order of pairs: to compare key, keep and remove one after the other is to compare the one number that they make.
+-- The order of pairs: to compare the costs or their keys, then keep, then remove is to compare the one number that they make.
 -- Assumes nothing.
 use Prim.Native.Nat.{ℕ, _+_, _*_, _^_, _<_}
 use native.Mathlib.Nat.{mul-le-mul-right, suc-mul, le-antisymm}
 use native.Mathlib.Omega.{arith}
-use mathlib.Core.Path.{_≡_, refl, sym, ap, _∙_}
+use mathlib.Core.Path.{_≡_, refl, sym, ap, subst, _∙_}
 use mathlib.Core.Bool.{Bool, true, false}
 use lib.IntN.{ℤ, pos, negsuc}
-use lib.Dec.{ltb}
+use lib.Dec.{T, ltb}
 use lib.Signed.{ltZ, mag}
+use lib.Ieee.{Float, binary64, fits, lt, toBits}
+use lib.Ieee.Bits.{toBits-lt}
 use mir.Syntax.{w64}
 use mir.Val.{toZ, ofZ}
 use borrow.Author.Tests.{ltb-true, ltb-false, lt-ltb, le-ltb}
+use Rattle.bits.specs.Order.{floatKey, orderKey}
+use Rattle.bits.proofs.OrderLaws.{lt-order}
 use Rattle.placement.proofs.PlacementLaws.{keys-compared}
 use Rattle.lists.proofs.TestLaws.{by-test}
 use Rattle.meaning.specs.Arithmetic.{fromLowest}
@@ -40,28 +44,45 @@ key-order (negsuc m) (negsuc n) ha hb =
 
 -- the numbers are those of a machine
 pub record Sized (r : Ranked) : Type 0 where
-  pub key-fits : mag (r .key) < 2 ^ 63
+  pub cost-fits : T (fits binary64 (r .cost))
   pub keep-fits : r .keep < 2 ^ 32
   pub remove-fits : r .remove < 2 ^ 32
 
--- the test of two keys, on the bits that the machine holds them in
-abbrev pub keyTest : Ranked → Ranked → Bool
-keyTest a b = ltZ (toZ w64 (ofZ w64 (a .key))) (toZ w64 (ofZ w64 (b .key)))
+-- a float's key fits into a signed word
+key-small : (x : Float) → T (fits binary64 x) → mag (floatKey x) < 2 ^ 63
+unfolding floatKey orderKey
+key-small x fit =
+    let b = toBits binary64 x in
+    let small : b < 2 ^ 64 = toBits-lt binary64 x fit in
+    by-test (ltb b (2 ^ 63))
+    (λ e. rw e (ltb-true b (2 ^ 63) e))
+    (λ e. rw e (omega (arith, ltb-false b (2 ^ 63) e)))
+
+-- the number that stands for a cost
+abbrev pub byCost : Ranked → ℕ
+byCost r = fromLowest (floatKey (r .cost))
 
 module _ {a b : Ranked} (a-sized : Sized a) (b-sized : Sized b) where
-  key-tested : {t : Bool} → keyTest a b ≡ t → ltb (fromLowest (a .key)) (fromLowest (b .key)) ≡ t
-  key-tested e =
-      sym (key-order (a .key) (b .key) (a-sized .key-fits) (b-sized .key-fits))
-      ∙ keys-compared (a .key) (b .key) (a-sized .key-fits) (b-sized .key-fits) e
+  keys-order : ltZ (floatKey (a .cost)) (floatKey (b .cost)) ≡ ltb (byCost a) (byCost b)
+  keys-order = key-order (floatKey (a .cost)) (floatKey (b .cost)) (key-small (a .cost) (a-sized .cost-fits)) (key-small (b .cost) (b-sized .cost-fits))
 
-  -- the lower key comes first
-  pub first-by-key : keyTest a b ≡ true → rank a < rank b
+  -- the test of two keys, on the bits that the machine holds them in
+  pub key-tested : {x y : ℤ} {t : Bool} → x ≡ floatKey (a .cost) → y ≡ floatKey (b .cost) → ltZ (toZ w64 (ofZ w64 x)) (toZ w64 (ofZ w64 y)) ≡ t → ltb (byCost a) (byCost b) ≡ t
+  key-tested {x} {y} {t} same-x same-y e =
+      sym keys-order
+      ∙ keys-compared (floatKey (a .cost)) (floatKey (b .cost)) (key-small (a .cost) (a-sized .cost-fits)) (key-small (b .cost) (b-sized .cost-fits))
+      (rw (← same-x, ← same-y) e)
+
+  -- the lower number for the cost comes first
+  pub first-by-key : ltb (byCost a) (byCost b) ≡ true → rank a < rank b
   unfolding rank
-  first-by-key e =
-      digits-first (b .remove) (a-sized .remove-fits)
-      (digits-first (b .keep) (a-sized .keep-fits) (ltb-true (fromLowest (a .key)) (fromLowest (b .key)) (key-tested e)))
+  first-by-key e = digits-first (b .remove) (a-sized .remove-fits) (digits-first (b .keep) (a-sized .keep-fits) (ltb-true (byCost a) (byCost b) e))
 
-  module _ (same-key : fromLowest (a .key) ≡ fromLowest (b .key)) where
+  -- so the lower cost does
+  pub first-by-cost : lt (a .cost) (b .cost) ≡ true → rank a < rank b
+  first-by-cost less = first-by-key (sym keys-order ∙ lt-order (a .cost) (b .cost) (a-sized .cost-fits) (b-sized .cost-fits) (subst T (sym less) tt))
+
+  module _ (same-key : byCost a ≡ byCost b) where
     -- of one key, the lower keep
     pub first-by-keep : a .keep < b .keep → rank a < rank b
     unfolding rank
@@ -73,13 +94,10 @@ module _ {a b : Ranked} (a-sized : Sized a) (b-sized : Sized b) where
     pub first-by-remove : a .keep ≡ b .keep → ltb (a .remove) (b .remove) ≡ ltb (rank a) (rank b)
     unfolding rank
     first-by-remove same-keep =
-        let same : fromLowest (a .key) * 2 ^ 32 + a .keep ≡ fromLowest (b .key) * 2 ^ 32 + b .keep = rw (same-key, same-keep) refl in
-        ltb-add ((fromLowest (a .key) * 2 ^ 32 + a .keep) * 2 ^ 32) (a .remove) (b .remove)
+        let same : byCost a * 2 ^ 32 + a .keep ≡ byCost b * 2 ^ 32 + b .keep = rw (same-key, same-keep) refl in
+        ltb-add ((byCost a * 2 ^ 32 + a .keep) * 2 ^ 32) (a .remove) (b .remove)
         ∙ ap (λ (k : ℕ). ltb (rank a) (k * 2 ^ 32 + b .remove)) same
 
 -- neither key is below the other: they are the same
-pub same-keys : {a b : Ranked} → Sized a → Sized b → keyTest a b ≡ false → keyTest b a ≡ false → fromLowest (a .key) ≡ fromLowest (b .key)
-same-keys {a} {b} sa sb ab ba =
-    le-antisymm
-    (ltb-false (fromLowest (b .key)) (fromLowest (a .key)) (key-tested sb sa ba))
-    (ltb-false (fromLowest (a .key)) (fromLowest (b .key)) (key-tested sa sb ab))
+pub same-keys : (a b : Ranked) → ltb (byCost a) (byCost b) ≡ false → ltb (byCost b) (byCost a) ≡ false → byCost a ≡ byCost b
+same-keys a b ab ba = le-antisymm (ltb-false (byCost b) (byCost a) ba) (ltb-false (byCost a) (byCost b) ab)

@@ -15,7 +15,7 @@ ghost use lib.ListN.{length};
 ghost use Rattle.walk.specs.Pairs.{pairOf, apart};
 ghost use Rattle.memory.specs.Memory.{Room};
 ghost use Rattle.memory.specs.Entries.{pairAt};
-ghost use Rattle.openpairs.specs.Contracts.Ranks.{keyAt, placeAt, rankedAt, rank};
+ghost use Rattle.openpairs.specs.Contracts.Ranks.{costAt, placeAt, rankedAt, rank};
 ghost use Rattle.openpairs.specs.Contracts.Changes.{Named, LeastAt, Closed, Dropped};
 
 // The least open pair: its place in the list, and the pair with where it goes.
@@ -24,10 +24,10 @@ pub struct Least {
     pub fold: Fold,
 }
 
-// A pair, its place in the list, and the key of its cost.
+// A pair, its place in the list, and its cost.
 pub struct Ranked {
     pub at: usize,
-    pub key: i64,
+    pub cost: f64,
     pub keep: u32,
     pub remove: u32,
 }
@@ -70,8 +70,8 @@ pub fn drop_pairs(w: &mut [u32], v: usize, f: usize, n: usize, keep: u32, remove
     kept
 }
 
-// The key of a pair's cost.
-fn key_of(
+// A pair's cost.
+fn cost_of(
     w: &[u32],
     p: &[f32],
     q: &[f64],
@@ -80,13 +80,13 @@ fn key_of(
     keep: u32,
     remove: u32,
     bounds: Bounds,
-) -> i64
+) -> f64
     requires { ⌜ Room v f (now w) ⌝ ∗ ⌜ 3 * v ≤ length (now p) ⌝ ∗ ⌜ 10 * v ≤ length (now q) ⌝ ∗ ⌜ keep < v ⌝ ∗ ⌜ remove < v ⌝ }
-    ensures { λ r. ⌜ r ≡ keyAt v f (now (w .entry)) (now (p .entry)) (now (q .entry)) (bounds .size) keep remove ⌝ }
+    ensures { λ r. ⌜ r ≡ costAt v f (now (w .entry)) (now (p .entry)) (now (q .entry)) (bounds .size) keep remove ⌝ }
 {
     let stays = vertex_at(w, p, q, v, f, keep as usize);
     let goes = vertex_at(w, p, q, v, f, remove as usize);
-    bits::order::order(pair_cost(stays, goes, bounds.size))
+    pair_cost(stays, goes, bounds.size)
 }
 
 // Where a pair goes.
@@ -108,7 +108,7 @@ fn place_of(
     pair_place(stays, goes, bounds.size)
 }
 
-// The pair in a place of the list, with the key of its cost, which is worked out anew.
+// The pair in a place of the list, with its cost, which is worked out anew.
 fn ranked_at(
     w: &[u32],
     p: &[f32],
@@ -126,20 +126,22 @@ fn ranked_at(
     let remove = remove_at(w, v, f, i);
     Ranked {
         at: i,
-        key: key_of(w, p, q, v, f, keep, remove, bounds),
+        cost: cost_of(w, p, q, v, f, keep, remove, bounds),
         keep: keep,
         remove: remove,
     }
 }
 
 // Whether a pair comes before another in the order: by the key of its cost, then by keep, then by remove.
-pub fn comes_first(a: Ranked, b: Ranked) -> bool
+fn comes_first_by_key(a: Ranked, b: Ranked) -> bool
     ensures { λ r. ⌜ r ≡ ltb (rank a) (rank b) ⌝ }
 {
-    if a.key < b.key {
+    let first = bits::order::order(a.cost);
+    let second = bits::order::order(b.cost);
+    if first < second {
         return true;
     }
-    if b.key < a.key {
+    if second < first {
         return false;
     }
     if a.keep < b.keep {
@@ -149,6 +151,20 @@ pub fn comes_first(a: Ranked, b: Ranked) -> bool
         return false;
     }
     a.remove < b.remove
+}
+
+// The same. Keys are in the order of the costs, so they are worked out only where neither cost is below the other: for equal costs, which a zero's sign may
+// still tell apart.
+pub fn comes_first(a: Ranked, b: Ranked) -> bool
+    ensures { λ r. ⌜ r ≡ ltb (rank a) (rank b) ⌝ }
+{
+    if a.cost < b.cost {
+        return true;
+    }
+    if b.cost < a.cost {
+        return false;
+    }
+    comes_first_by_key(a, b)
 }
 
 // The least open pair, and where it goes.

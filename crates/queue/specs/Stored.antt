@@ -6,7 +6,6 @@ use mathlib.Core.Bool.{Bool, true, false, not, _&&_, _||_}
 use lib.Dec.{eqb, leb}
 use lib.ListN.{getD}
 use lib.Ieee.{Float}
-use Rattle.bits.specs.Order.{floatKey}
 use Rattle.lists.specs.Lists.{every, below, stretch, SameBag}
 use Rattle.memory.specs.Layout.{stampsFrom}
 use Rattle.memory.specs.declared.entries.Entry.{Entry}
@@ -33,7 +32,7 @@ isOld stamps e =
 
 -- what entries are compared by: stored cost, keep, remove
 abbrev pub rankedOf : Entry → Ranked
-rankedOf e = record { at = 0; key = floatKey (e .cost); keep = e .pair .keep; remove = e .pair .remove }
+rankedOf e = record { at = 0; cost = e .cost; keep = e .pair .keep; remove = e .pair .remove }
 
 unfoldable pub entryRank : Entry → ℕ
 entryRank e = rank (rankedOf e)

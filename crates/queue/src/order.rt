@@ -23,7 +23,7 @@ fn ranked_in(w: &[u32], q: &[f64], v: usize, f: usize, i: usize) -> Ranked
     let pair = memory::entry_pair(w, v, f, i);
     Ranked {
         at: i,
-        key: bits::order::order(memory::cost_at(q, v, i)),
+        cost: memory::cost_at(q, v, i),
         keep: pair.keep,
         remove: pair.remove,
     }
@@ -36,7 +36,7 @@ fn ranked_of(entry: Entry) -> Ranked
     let pair = entry.pair;
     Ranked {
         at: 0,
-        key: bits::order::order(entry.cost),
+        cost: entry.cost,
         keep: pair.keep,
         remove: pair.remove,
     }

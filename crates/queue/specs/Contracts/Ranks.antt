@@ -5,14 +5,13 @@ use mathlib.Core.Bool.{cond}
 use mathlib.Core.List.{List}
 use lib.Dec.{ltb}
 use lib.Ieee.{Float}
-use Rattle.bits.specs.Order.{floatKey}
 use Rattle.openpairs.specs.declared.pairs.Ranked.{Ranked}
 use Rattle.memory.specs.Entries.{entryPair, costIn}
 use Rattle.openpairs.specs.Contracts.Ranks.{rank}
 
--- what the entry in a place is compared by: the key of its stored cost, then keep, then remove
+-- what the entry in a place is compared by: its stored cost, then keep, then remove
 abbrev pub rankedIn : ℕ → ℕ → List ℕ → List Float → ℕ → Ranked
-rankedIn v f w q i = record { at = i; key = floatKey (costIn v q i); keep = entryPair v f w i .keep; remove = entryPair v f w i .remove }
+rankedIn v f w q i = record { at = i; cost = costIn v q i; keep = entryPair v f w i .keep; remove = entryPair v f w i .remove }
 
 unfoldable pub rankIn : ℕ → ℕ → List ℕ → List Float → ℕ → ℕ
 rankIn v f w q i = rank (rankedIn v f w q i)

@@ -1,8 +1,5 @@
 -- `openpairs::pairs::ranked_at` meets its contract: each part is what the function that gave it ensures.
 -- Assumes nothing.
-use mathlib.Core.Path.{_∙_}
-use mir.Syntax.{w64}
-use mir.ValLaws.{toZ-ofZ}
 use borrow.Author.Needs.{needs}
 use Rattle.openpairs.proofs.LeastLaws.{ranked-is}
 use Rattle.openpairs.proofs.pairs.ranked_at.Statement.{statement}
@@ -12,7 +9,7 @@ returns : tie.Need-returns
 returns c =
     let given = c .before .before .before .before .before .before .args in
     ranked-is (given .v) (given .f) (given .w .now) (given .p .now) (given .q .now) (given .bounds .size) (given .i) (c .before .before .keep-at .ensures) (c .before .remove-at .ensures)
-    (toZ-ofZ w64 (c .key-of .result) (record { sfits = c .key-of .ok }) ∙ c .key-of .ensures)
+    (c .cost-of .ensures)
 
 pub ranked-at-spec : {M : Type 1} → statement M
 ranked-at-spec = tie.close (tie.spec (λ c κs. search needs) (λ c κs. search needs) (λ c κs. search needs) returns)

@@ -1,10 +1,7 @@
 -- `queue::order::ranked_in` meets its contract: each part is what was read of it.
 -- Assumes nothing.
-use mathlib.Core.Path.{ap, _∙_}
+use mathlib.Core.Path.{ap}
 use borrow.Author.Needs.{needs}
-use mir.Syntax.{w64}
-use mir.ValLaws.{toZ-ofZ}
-use Rattle.bits.specs.Order.{floatKey}
 use Rattle.walk.specs.declared.Pair.{Pair}
 use Rattle.queue.proofs.KeyLaws.{ranked-path}
 use Rattle.queue.proofs.order.ranked_in.Statement.{statement}
@@ -12,15 +9,13 @@ use Rattle.queue.proofs.order.ranked_in.Tie as tie
 
 returns : tie.Need-returns
 returns c =
-    let pair = c .before .before .entry-pair .ensures in
-    ranked-path (toZ-ofZ w64 (c .order .result) (record { sfits = c .order .ok }) ∙ c .order .ensures ∙ ap floatKey (c .before .cost-at .ensures))
-    (ap (λ (x : Pair). x .keep) pair) (ap (λ (x : Pair). x .remove) pair)
+    let pair = c .before .entry-pair .ensures in
+    ranked-path (c .cost-at .ensures) (ap (λ (x : Pair). x .keep) pair) (ap (λ (x : Pair). x .remove) pair)
 
 pub ranked-in-spec : {M : Type 1} → statement M
 ranked-in-spec =
     tie.close
     (tie.spec
-    (λ c κs. search needs)
     (λ c κs. search needs)
     (λ c κs. search needs)
     returns)
