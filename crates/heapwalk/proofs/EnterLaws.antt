@@ -37,7 +37,8 @@ use Rattle.queue.specs.Contracts.Queued.{Kept}
 use Rattle.queue.specs.Contracts.Changes.{Pushed}
 use Rattle.heapwalk.specs.Contracts.Entering.{Open, entriesFor, Entered}
 use Rattle.heapwalk.specs.Entries.{entryFor}
-use Rattle.heapwalk.specs.Contracts.Listing.{pairsWith, listedOr, ListedPoints, Enterable, EnteredBeside}
+use Rattle.heapwalk.specs.Contracts.Listing.{pairsWith, Enterable, EnteredBeside}
+use Rattle.heapwalk.specs.Contracts.Reading.{PointsListed}
 use Rattle.heapwalk.proofs.QueueFrames.{vertex-stays, fits-stays, mesh-stays}
 use Rattle.heapwalk.proofs.EntryForLaws.{entries-current, entry-is}
 use Rattle.memory.specs.Layout.{aroundFrom}
@@ -207,18 +208,12 @@ module _ {v f : ℕ} {w₀ : List ℕ} {p₀ q₀ : List Float} {n₀ : ℕ} {li
   listed-none = record { entered = entered-none (ready .«open»); lists-same = λ i l m. refl }
 
   -- the points that are listed are points still
-  pub turn-listed : {w : List ℕ} {p q : List Float} {n : ℕ} {more : List Pair} → EnteredBeside v f w₀ p₀ q₀ n₀ limit bound more w p q n → ListedPoints v f w count x
-  turn-listed so-far =
+  pub turn-listed : {w : List ℕ} {p q : List Float} {n : ℕ} {more : List Pair} → EnteredBeside v f w₀ p₀ q₀ n₀ limit bound more w p q n → PointsListed v f w count
+  turn-listed so-far j l =
       let at : ℕ → ℕ = λ i. getD w₀ (aroundFrom v f + i) 0 in
-      record {
-        room = so-far .entered .«open» .tidy .room;
-        few = few;
-        points = λ j l.
-            rw (so-far .lists-same (aroundFrom v f + j) (omega arith) (omega arith))
-            (ltb-true (at j) v
-            (ap (λ (y : ℕ). ltb y v) (sym (getD-each at count j 0 l)) ∙ every-at (λ y. ltb y v) 0 (aroundIn v f w₀ count) (ready .points) j (rw length-each l)));
-        point = ready .point;
-      }
+      rw (so-far .lists-same (aroundFrom v f + j) (omega arith) (omega arith))
+      (ltb-true (at j) v
+      (ap (λ (y : ℕ). ltb y v) (sym (getD-each at count j 0 l)) ∙ every-at (λ y. ltb y v) 0 (aroundIn v f w₀ count) (ready .points) j (rw length-each l)))
 
   module _ {w : List ℕ} {p q : List Float} {n i : ℕ}
       (so-far : EnteredBeside v f w₀ p₀ q₀ n₀ limit bound (pairsWith v f w₀ p₀ q₀ limit bound x (aroundIn v f w₀ i)) w p q n) (inside : i < count) where
@@ -227,11 +222,7 @@ module _ {v f : ℕ} {w₀ : List ℕ} {p₀ q₀ : List Float} {n₀ : ℕ} {li
     turn-point = so-far .lists-same (aroundFrom v f + i) (omega arith) (omega arith)
 
     turn-below : getD w₀ (aroundFrom v f + i) 0 < v
-    turn-below =
-        let at : ℕ → ℕ = λ i. getD w₀ (aroundFrom v f + i) 0 in
-        ltb-true (at i) v
-        (ap (λ (y : ℕ). ltb y v) (sym (getD-each at count i 0 inside))
-        ∙ every-at (λ y. ltb y v) 0 (aroundIn v f w₀ count) (ready .points) i (rw length-each inside))
+    turn-below = turn-listed listed-none i inside
 
     -- it is eligible with x where it was
     turn-same : (y : ℕ) → y < v → pairsWith v f w p q limit bound x (y ∷ []) ≡ pairsWith v f w₀ p₀ q₀ limit bound x (y ∷ [])
@@ -268,18 +259,3 @@ module _ {v f : ℕ} {w₀ : List ℕ} {p₀ q₀ : List Float} {n₀ : ℕ} {li
         entered = rw (with-next v f w₀ p₀ q₀ limit bound x i) (entered-then (so-far .entered) (rw turn-with at (turn .entered)));
         lists-same = λ j l m. turn .lists-same j l m ∙ so-far .lists-same j l m;
       }
-
--- what is read ahead of a listed point is what it carries still once entries are put in
-pub ahead-stays : {v f : ℕ} {w w' : List ℕ} {p p' q q' : List Float} {n n' : ℕ} {limit : Limit} {bound : Float} {more : List Pair} {count x : ℕ} (i : ℕ) →
-    ListedPoints v f w count x → EnteredBeside v f w p q n limit bound more w' p' q' n' →
-    vertexAt v f w p q (listedOr v f w count x i) ≡ vertexAt v f w' p' q' (listedOr v f w' count x i)
-ahead-stays {v} {f} {w} {w'} {p} {p'} {q} {q'} {count = count} {x = x} i listed beside =
-    let done = beside .entered .enqueued in
-    let stays = vertex-stays v f (done .but) (omega arith) (done .points-but) (done .quadrics-but) in
-    by-test (ltb i count)
-    (λ t.
-    let l = ltb-true i count t in
-    let few = listed .few in
-    let same : getD w' (aroundFrom v f + i) 0 ≡ getD w (aroundFrom v f + i) 0 = beside .lists-same (aroundFrom v f + i) (omega arith) (omega arith) in
-    ap (vertexAt v f w p q) (rw t) ∙ sym (stays (getD w (aroundFrom v f + i) 0) (listed .points i l)) ∙ ap (vertexAt v f w' p' q') (sym (rw t same)))
-    (λ t. ap (vertexAt v f w p q) (rw t) ∙ sym (stays x (listed .point)) ∙ ap (vertexAt v f w' p' q') (sym (rw t)))

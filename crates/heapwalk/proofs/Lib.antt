@@ -2,6 +2,7 @@
 pub mod QueueFrames
 pub mod EntryForLaws
 pub mod EnterLaws
+pub mod ReadLaws
 pub mod AroundLaws
 pub mod StartLaws
 pub mod MemoryLaws

@@ -4,43 +4,60 @@ ghost use mathlib.Core.List.{[], _∷_};
 ghost use lib.ListN.{length};
 ghost use Rattle.walk.specs.Walk.{started};
 ghost use Rattle.mesh.specs.Contracts.Chains.{Tidy};
-ghost use Rattle.memory.specs.Points.{vertexAt, meshOf};
+ghost use Rattle.memory.specs.Points.{quadricAt, meshOf};
 ghost use mathlib.Core.Path.{_≡_};
 ghost use Rattle.meaning.specs.Arithmetic.{rulesOf};
 ghost use Rattle.openpairs.specs.Contracts.Edges.{openedAround};
 ghost use Rattle.queue.specs.State.{openIn};
-ghost use Rattle.memory.specs.Memory.{aroundIn};
+ghost use Rattle.memory.specs.Memory.{Room, aroundIn};
 ghost use Rattle.heapwalk.specs.Contracts.Entering.{Open, Entered, Started};
-ghost use Rattle.heapwalk.specs.Contracts.Listing.{pairsWith, listedOr, ListedPoints, Enterable, EnteredBeside};
+ghost use Rattle.heapwalk.specs.Contracts.Listing.{pairsWith, Enterable, EnteredBeside};
+ghost use Rattle.heapwalk.specs.Contracts.Reading.{partOf, PointsListed, PartRead, ReadBefore, ReadAt};
 ghost use Rattle.memory.specs.Layout.{costsTo, placesTo};
+use geometry::Quadric;
 use memory::vertex_at;
+use memory::vertex_with;
 use placement::Bounds;
 use placement::Fold;
 use placement::pair::Candidate;
-use placement::pair::Vertex;
 use placement::pair::pair_candidate;
 
-// What the listed point after i others carries, and what x carries where there is none.
-fn vertex_ahead(
-    w: &[u32],
-    p: &[f32],
-    q: &[f64],
-    v: usize,
-    f: usize,
-    count: usize,
-    x: u32,
-    i: usize,
-) -> Vertex
-    requires { ⌜ ListedPoints v f (now w) count x ⌝ ∗ ⌜ 3 * v ≤ length (now p) ⌝ ∗ ⌜ 10 * v ≤ length (now q) ⌝ }
-    ensures { λ r. ⌜ r ≡ vertexAt v f (now (w .entry)) (now (p .entry)) (now (q .entry)) (listedOr v f (now (w .entry)) count x i) ⌝ }
+// How many quadrics are read at a time.
+const AT_A_TIME: usize = 8;
+
+// How many of so many listed points are read next.
+fn next_part(left: usize) -> usize
+    ensures { λ r. ⌜ r ≡ partOf left ⌝ }
 {
-    if i < count {
-        return vertex_at(w, p, q, v, f, memory::around_at(w, v, f, i) as usize);
+    if left < AT_A_TIME {
+        return left;
     }
-    vertex_at(w, p, q, v, f, x as usize)
+    AT_A_TIME
 }
 
-// Opens x with y, which carries what is said, where the pair is eligible. Says how many entries there are.
+// Copies the quadrics of some listed points, from one on, side by side.
+fn read_part(w: &[u32], q: &[f64], v: usize, f: usize, from: usize, some: usize, near: &mut [f64])
+    requires { ⌜ Room v f (now w) ⌝ ∗ ⌜ from + some ≤ v ⌝ ∗ ⌜ PointsListed v f (now w) (from + some) ⌝ ∗ ⌜ 10 * v ≤ length (now q) ⌝ ∗ ⌜ 10 * some ≤ length (now near) ⌝ }
+    ensures { λ _. ⌜ PartRead v f (now (w .entry)) (now (q .entry)) from some (now (near .entry)) (now (near .exit)) ⌝ }
+{
+    for j in 0..some {
+        let y = memory::around_at(w, v, f, from + j);
+        memory::set_quadric(near, j, memory::quadric_at(q, y as usize));
+    }
+}
+
+// Has the quadric of listed point i at hand: where a part begins, those of the part are read. Each lies far from the next, and reads that don't wait for one
+// another take hardly longer than one.
+fn read_ahead(w: &[u32], q: &[f64], v: usize, f: usize, count: usize, i: usize, near: &mut [f64])
+    requires { ⌜ Room v f (now w) ⌝ ∗ ⌜ (i < count) × (count ≤ v) ⌝ ∗ ⌜ PointsListed v f (now w) count ⌝ ∗ ⌜ 10 * v ≤ length (now q) ⌝ ∗ ⌜ ReadBefore v f (now w) (now q) count i (now near) ⌝ }
+    ensures { λ _. ⌜ ReadAt v f (now (w .entry)) (now (q .entry)) count i (now (near .exit)) ⌝ }
+{
+    if i % AT_A_TIME == 0 {
+        read_part(w, q, v, f, i, next_part(count - i), near);
+    }
+}
+
+// Opens x with y, whose quadric is said, where the pair is eligible. Says how many entries there are.
 fn enter_pair(
     w: &mut [u32],
     p: &mut [f32],
@@ -50,13 +67,14 @@ fn enter_pair(
     n: usize,
     x: u32,
     y: u32,
-    goes: Vertex,
+    quadric: Quadric,
     bounds: Bounds,
 ) -> usize
-    requires { ⌜ Enterable v f (now w) (now p) (now q) n (bounds .limit) (bounds .size) x (y ∷ []) ⌝ ∗ ⌜ goes ≡ vertexAt v f (now w) (now p) (now q) y ⌝ }
+    requires { ⌜ Enterable v f (now w) (now p) (now q) n (bounds .limit) (bounds .size) x (y ∷ []) ⌝ ∗ ⌜ quadric ≡ quadricAt (now q) y ⌝ }
     ensures { λ r. ⌜ EnteredBeside v f (now (w .entry)) (now (p .entry)) (now (q .entry)) n (bounds .limit) (bounds .size) (pairsWith v f (now (w .entry)) (now (p .entry)) (now (q .entry)) (bounds .limit) (bounds .size) x (y ∷ [])) (now (w .exit)) (now (p .exit)) (now (q .exit)) r ⌝ }
 {
     let stays = vertex_at(w, p, q, v, f, x as usize);
+    let goes = vertex_with(w, p, v, f, y as usize, quadric);
     let limit = bounds.limit;
     match pair_candidate(stays, goes, limit, bounds.size) {
         Candidate::Eligible(cost, place) => {
@@ -71,8 +89,7 @@ fn enter_pair(
     }
 }
 
-// Opens x with each of the points that are listed, where the pair is eligible. Says how many entries there are. What a point carries lies far from what
-// the one before it carries, so it is read while that one's pair is worked out.
+// Opens x with each of the points that are listed, where the pair is eligible. Says how many entries there are.
 fn enter_listed(
     w: &mut [u32],
     p: &mut [f32],
@@ -87,14 +104,14 @@ fn enter_listed(
     requires { ⌜ Enterable v f (now w) (now p) (now q) n (bounds .limit) (bounds .size) x (aroundIn v f (now w) count) ⌝ ∗ ⌜ count ≤ v ⌝ }
     ensures { λ r. ⌜ EnteredBeside v f (now (w .entry)) (now (p .entry)) (now (q .entry)) n (bounds .limit) (bounds .size) (pairsWith v f (now (w .entry)) (now (p .entry)) (now (q .entry)) (bounds .limit) (bounds .size) x (aroundIn v f (now (w .entry)) count)) (now (w .exit)) (now (p .exit)) (now (q .exit)) r ⌝ }
 {
+    let mut near = [0.0f64; 80];
     let mut entries = n;
-    let mut goes = vertex_ahead(w, p, q, v, f, count, x, 0);
     let mut i = 0;
     while i < count {
+        read_ahead(w, q, v, f, count, i, &mut near);
         let y = memory::around_at(w, v, f, i);
-        let next = vertex_ahead(w, p, q, v, f, count, x, i + 1);
-        entries = enter_pair(w, p, q, v, f, entries, x, y, goes, bounds);
-        goes = next;
+        let quadric = memory::quadric_at(&near, i % AT_A_TIME);
+        entries = enter_pair(w, p, q, v, f, entries, x, y, quadric, bounds);
         i += 1;
     }
     entries

@@ -47,9 +47,12 @@ withQuadric q x b = sets q (10 * x) (quadricParts b)
 abbrev pub withPoints : ℕ → List Float → List Float → List Float
 withPoints v points p = take (3 * v) points ++ drop (3 * v) p
 
--- all that the point x carries
+-- all that the point x carries, with a quadric that is said, and with its own
+abbrev pub vertexWith : ℕ → ℕ → List ℕ → List Float → ℕ → Quadric → Vertex
+vertexWith v f w p x quadric = record { point = pointAt p x; quadric = quadric; kind = kindOf (kind v f w x) }
+
 abbrev pub vertexAt : ℕ → ℕ → List ℕ → List Float → List Float → ℕ → Vertex
-vertexAt v f w p q x = record { point = pointAt p x; quadric = quadricAt q x; kind = kindOf (kind v f w x) }
+vertexAt v f w p q x = vertexWith v f w p x (quadricAt q x)
 
 -- the mesh in memory: the v points, and the live faces in face order, with their numbers
 unfoldable pub meshOf : ℕ → ℕ → List ℕ → List Float → List Float → Mesh Vertex

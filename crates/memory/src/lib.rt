@@ -42,3 +42,4 @@ pub use points::quadric_at;
 pub use points::set_point;
 pub use points::set_quadric;
 pub use points::vertex_at;
+pub use points::vertex_with;

@@ -5,7 +5,7 @@ ghost use mathlib.Core.List.{[], _∷_};
 ghost use lib.ListN.{length};
 ghost use lib.Seq.{sets};
 ghost use Rattle.meaning.specs.Input.{pointAt};
-ghost use Rattle.memory.specs.Points.{quadricAt, vertexAt, withPoint, withQuadric};
+ghost use Rattle.memory.specs.Points.{quadricAt, vertexWith, vertexAt, withPoint, withQuadric};
 ghost use Rattle.memory.specs.Layout.{kindsFrom};
 use geometry::Point;
 use geometry::Quadric;
@@ -43,16 +43,24 @@ pub fn quadric_at(q: &[f64], x: usize) -> Quadric
     }
 }
 
+// All that a point carries, where its quadric is at hand.
+pub fn vertex_with(w: &[u32], p: &[f32], v: usize, f: usize, x: usize, quadric: Quadric) -> Vertex
+    requires { ⌜ kindsFrom v f + x < length (now w) ⌝ ∗ ⌜ 3 * x + 2 < length (now p) ⌝ }
+    ensures { λ r. ⌜ r ≡ vertexWith v f (now (w .entry)) (now (p .entry)) x quadric ⌝ }
+{
+    Vertex {
+        point: point_at(p, x),
+        quadric,
+        kind: placement::kind_of(crate::cells::kind_at(w, v, f, x)),
+    }
+}
+
 // All that a point carries.
 pub fn vertex_at(w: &[u32], p: &[f32], q: &[f64], v: usize, f: usize, x: usize) -> Vertex
     requires { ⌜ kindsFrom v f + x < length (now w) ⌝ ∗ ⌜ 3 * x + 2 < length (now p) ⌝ ∗ ⌜ 10 * x + 9 < length (now q) ⌝ }
     ensures { λ r. ⌜ r ≡ vertexAt v f (now (w .entry)) (now (p .entry)) (now (q .entry)) x ⌝ }
 {
-    Vertex {
-        point: point_at(p, x),
-        quadric: quadric_at(q, x),
-        kind: placement::kind_of(crate::cells::kind_at(w, v, f, x)),
-    }
+    vertex_with(w, p, v, f, x, quadric_at(q, x))
 }
 
 // Puts a point at its place.

@@ -2,7 +2,7 @@
 use Prim.Native.Nat.{ℕ, _+_, _*_, _≤_, _<_}
 use mathlib.Core.Path.{_≡_}
 use mathlib.Core.List.{List, map}
-use mathlib.Core.Bool.{true, cond}
+use mathlib.Core.Bool.{true}
 use lib.Dec.{ltb}
 use lib.ListN.{length, getD}
 use lib.Ieee.{Float}
@@ -13,23 +13,11 @@ use Rattle.walk.specs.Pairs.{pairOf}
 use Rattle.openpairs.specs.Contracts.Waiting.{fits}
 use Rattle.queue.specs.State.{openIn}
 use Rattle.heapwalk.specs.Contracts.Entering.{Open, Entered}
-use Rattle.memory.specs.Memory.{Room}
-use Rattle.memory.specs.Layout.{aroundFrom, foldsFrom, nearFrom}
+use Rattle.memory.specs.Layout.{foldsFrom, nearFrom}
 
 -- x with each point of a list, where the pair is eligible
 abbrev pub pairsWith : ℕ → ℕ → List ℕ → List Float → List Float → Limit → Float → ℕ → List ℕ → List Pair
 pairsWith v f w p q limit bound x ys = map (pairOf x) (those (fits v f w p q limit bound x) ys)
-
--- a listed point by its place, and x where there is none
-abbrev pub listedOr : ℕ → ℕ → List ℕ → ℕ → ℕ → ℕ → ℕ
-listedOr v f w count x i = cond (ltb i count) (getD w (aroundFrom v f + i) 0) x
-
--- the listed points and x are points
-pub record ListedPoints (v f : ℕ) (w : List ℕ) (count x : ℕ) : Type 0 where
-  pub room : Room v f w
-  pub few : count ≤ v
-  pub points : (i : ℕ) → i < count → getD w (aroundFrom v f + i) 0 < v
-  pub point : x < v
 
 -- x may be opened with the points of a list: there are such points, and there is a place for each entry
 pub record Enterable (v f : ℕ) (w : List ℕ) (p q : List Float) (n : ℕ) (limit : Limit) (bound : Float) (x : ℕ) (ys : List ℕ) : Type 0 where

@@ -1,28 +1,20 @@
--- `memory::points::vertex_at` meets its contract: each part is what the function that read it ensures.
+-- `memory::points::vertex_at` meets its contract: the quadric that is read is the point's own.
 -- Assumes nothing.
 use borrow.Author.Needs.{needs}
-use mathlib.Core.Path.{_≡_, ap, _∙_}
-use Rattle.geometry.specs.declared.Point.{Point}
-use Rattle.geometry.specs.declared.Quadric.{Quadric}
-use Rattle.placement.specs.declared.Kind.{Kind}
-use Rattle.placement.specs.declared.pair.Vertex.{Vertex}
-use Rattle.placement.specs.Choices.{kindOf}
+use mathlib.Core.Path.{ap, _∙_}
+use Rattle.memory.specs.Points.{vertexWith}
 use Rattle.memory.proofs.points.vertex_at.Statement.{statement}
 use Rattle.memory.proofs.points.vertex_at.Tie as tie
 
--- a vertex of equal parts is the same
-abbrev made : Point → Quadric → Kind → Vertex
-made a b k = record { point = a; quadric = b; kind = k }
-
-same-parts : {a a' : Point} {b b' : Quadric} {k k' : Kind} → a ≡ a' → b ≡ b' → k ≡ k' → made a b k ≡ made a' b' k'
-same-parts e d g = rw (e, d, g)
-
 returns : tie.Need-returns
 returns c =
-    same-parts (c .before .before .before .point-at .ensures) (c .before .before .quadric-at .ensures)
-    (c .kind-of .ensures ∙ ap kindOf (c .before .kind-at .ensures))
+    let a = c .before .before .before .before .before .args in
+    c .vertex-with .ensures ∙ ap (vertexWith (a .v) (a .f) (a .w .now) (a .p .now) (a .x)) (c .before .quadric-at .ensures)
 
 pub vertex-at-spec : {M : Type 1} → statement M
 vertex-at-spec =
     tie.close
-    (tie.spec (λ c κs. search needs) (λ c κs. search needs) (λ c κs. search needs) (λ c κs. search needs) returns)
+    (tie.spec
+    (λ c κs. search needs)
+    (λ c κs. search needs)
+    returns)
