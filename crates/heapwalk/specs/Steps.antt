@@ -22,12 +22,7 @@ use Rattle.queue.specs.Stored.{stampsOf, entriesIn, isOld, LeastCurrent, Requeu
 use Rattle.heapwalk.specs.Entries.{newEntries, raises}
 use Rattle.heapwalk.specs.Contracts.Entering.{Open}
 use Rattle.plainwalk.specs.declared.Stepped.{Stepped}
-use Rattle.plainwalk.specs.declared.Step.the-variants.{Ended}
 use Rattle.plainwalk.specs.Steps.{answerOf, StepWithin}
-
--- what a step answers at the end
-abbrev pub endedWith : (entries live : ℕ) → Stepped
-endedWith entries live = record { step = Ended; «open» = entries; live = live }
 
 -- What ties the memory to a state of the plain walk: it holds a mesh and a queue, the state is sound, live is the number of live faces, and a stamp
 -- has grown at most once for each face that is gone.

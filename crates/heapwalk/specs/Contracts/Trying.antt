@@ -1,4 +1,4 @@
--- What trying the pair of an entry that was taken off asks, and what it leaves.
+-- What trying the pair of an entry that was taken off asks, and what it leaves; and what is answered at the end.
 use Prim.Native.Nat.{ℕ}
 use mathlib.Core.Path.{_≡_}
 use mathlib.Core.List.{List, _∷_}
@@ -14,6 +14,7 @@ use Rattle.memory.specs.Points.{vertexAt, meshOf}
 use Rattle.queue.specs.State.{openIn}
 use Rattle.queue.specs.Stored.{stampsOf, entriesIn, Requeued}
 use Rattle.plainwalk.specs.declared.Stepped.{Stepped}
+use Rattle.plainwalk.specs.declared.Step.the-variants.{Ended}
 use Rattle.heapwalk.specs.Entries.{newEntries}
 use Rattle.heapwalk.specs.Steps.{Held, StampsRaised, HeapAnswer}
 
@@ -35,3 +36,7 @@ pub record PairAnswer (v f : ℕ) (w : List ℕ) (p q : List Float) (n keep remo
   pub raised : StampsRaised v f w a w'
   pub requeued : Requeued (stampsOf v f w') (entriesIn v f w p q n) (newEntries limit bound (meshOf v f w' p' q') (stampsOf v f w') a)
       (entriesIn v f w' p' q' (r .«open»))
+
+-- what a step answers at the end
+abbrev pub endedWith : (entries live : ℕ) → Stepped
+endedWith entries live = record { step = Ended; «open» = entries; live = live }
