@@ -100,15 +100,24 @@ module _ {v f : ℕ} {w₀ : List ℕ} {p₀ q₀ : List Float} {n : ℕ} {w : L
             (k, m, written .other j d ∙ same));
       }
 
-  -- it is old, and stays behind
-  pub gathering-old : {b : Bool} → b ≡ false → b ≡ isPresent v f w e → Gathering v f w₀ p₀ q₀ n w p q kept (i + 1)
-  gathering-old {b} fails told = record {
-    few = omega (arith, before .few);
-    only = before .only;
-    ahead = λ j l m. before .ahead j (omega arith) m;
-    done = before .done ∙ sym (append-none _) ∙ sym (those-looked told ∙ ap (λ (c : Bool). those (stays v f w₀) (entriesIn v f w₀ p₀ q₀ i) ++ cond c (e ∷ []) []) fails);
-    were = before .were;
-  }
+  -- it is old, and stays behind: the next one will stand where it was written
+  pub gathering-old : {b : Bool} {w' : List ℕ} {p' q' : List Float} → b ≡ false → b ≡ isPresent v f w e → EntrySet v f w p q kept e w' p' q' →
+      Gathering v f w₀ p₀ q₀ n w' p' q' kept (i + 1)
+  gathering-old {b} {w'} {p'} {q'} fails told written =
+      let few = before .few in
+      record {
+        few = omega arith;
+        only = only-then (before .only) (written .only);
+        ahead = λ j l m. written .other j (omega arith) ∙ before .ahead j (omega arith) m;
+        done =
+            entries-same v f w p q w' p' q' kept (λ j l. written .other j (omega arith))
+            ∙ before .done
+            ∙ sym (append-none _)
+            ∙ sym (those-looked told ∙ ap (λ (c : Bool). those (stays v f w₀) (entriesIn v f w₀ p₀ q₀ i) ++ cond c (e ∷ []) []) fails);
+        were = λ j l.
+            let (k, m, same) = before .were j l in
+            (k, m, written .other j (omega arith) ∙ same);
+      }
     where
       append-none : (es : List Entry) → es ++ [] ≡ es
       append-none [] = refl

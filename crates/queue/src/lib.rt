@@ -92,7 +92,8 @@ pub fn take_current(
     Taken::Empty
 }
 
-// Puts the current entries first. Says how many they are.
+// Puts the current entries first. Says how many they are. Each entry is written where the next current one goes, and counted where it is current: which ones are
+// can't be guessed, so no work hangs on it.
 fn gather_current(
     w: &mut [u32],
     p: &mut [f32],
@@ -107,8 +108,9 @@ fn gather_current(
     let mut kept = 0;
     for i in 0..n {
         let entry = entry_at(w, p, q, v, f, i);
-        if is_current(w, v, f, entry) {
-            set_entry(w, p, q, v, f, kept, entry);
+        let stays = is_current(w, v, f, entry);
+        set_entry(w, p, q, v, f, kept, entry);
+        if stays {
             kept += 1;
         }
     }

@@ -31,26 +31,32 @@ is-current-requires c κs =
 
 set-entry-requires : tie.Need-set-entry-requires Inv-loop μ-loop
 set-entry-requires c κs =
-    let pre = c .before .before .before .before .before .before .before .before .before .before .before .before .before .before .before .pre in
-    let turn = c .before .before .before .before .before .before .before .before .before .before .before .loop .inv .1 in
-    (omega (arith, pre .0, c .before .before .before .before .before .before .before .before .before .before .loop-test .taken, turn .few), room-only (turn .only) (pre .1 .0))
+    let pre = c .before .before .before .before .before .before .before .before .before .before .before .before .before .before .pre in
+    let turn = c .before .before .before .before .before .before .before .before .before .before .loop .inv .1 in
+    (omega (arith, pre .0, c .before .before .before .before .before .before .before .before .before .loop-test .taken, turn .few), room-only (turn .only) (pre .1 .0))
 
 add-kept : tie.Need-add-kept Inv-loop μ-loop
 add-kept c =
     let pre = c .before .before .before .before .before .before .before .before .before .before .before .before .before .before .before .before .before .before .before .before .before .before .pre in
     omega (arith, pre .0, pre .1 .0 .room .faces-few, c .before .before .before .before .before .before .before .before .before .before .before .before .before .before .before .before .before .loop-test .taken, c .before .before .before .before .before .before .before .before .before .before .before .before .before .before .before .before .before .before .loop .inv .1 .few)
 
+add-i : tie.Need-add-i Inv-loop μ-loop
+add-i c =
+    let pre = c .before .before .before .before .before .before .before .before .before .before .before .before .before .before .before .before .before .before .before .before .before .before .pre in
+    omega (arith, pre .0, pre .1 .0 .room .faces-few, c .before .before .before .before .before .before .before .before .before .before .before .before .before .before .before .before .before .loop-test .taken)
+
 loop-again : tie.Need-loop-again Inv-loop μ-loop
 loop-again c =
-    let pre = c .before .before .before .before .before .before .before .before .before .before .before .before .pre in
-    let inside = c .before .before .before .before .before .before .before .loop-test .taken in
-    let turn = c .before .before .before .before .before .before .before .before .loop .inv .1 in
-    let read = c .before .before .before .entry-at .ensures in
-    let told = c .before .is-current .ensures in (
+    let pre = c .before .before .before .before .before .before .before .before .before .before .before .before .before .before .before .before .before .before .before .before .before .before .pre in
+    let inside = c .before .before .before .before .before .before .before .before .before .before .before .before .before .before .before .before .before .loop-test .taken in
+    let turn = c .before .before .before .before .before .before .before .before .before .before .before .before .before .before .before .before .before .before .loop .inv .1 in
+    let read = c .before .before .before .before .before .before .before .before .before .before .before .before .before .entry-at .ensures in
+    let told = c .before .before .before .before .before .before .before .before .before .before .before .is-current .ensures in
+    let written = c .before .before .before .before .before .before .before .set-entry .ensures in (
       search needs,
       ⊎-elim
-          (λ p. rw (p .11, p .12, p .13, p .14) (gathering-kept (pre .1 .1) inside turn read (p .0 .taken) told (p .4 .ensures)))
-          (λ p. rw (p .1, p .2, p .3, p .4) (gathering-old (pre .1 .1) inside turn read (p .0 .left) told))
+          (λ p. rw (p .1) (gathering-kept (pre .1 .1) inside turn read (p .0 .taken) told written))
+          (λ p. rw (p .1) (gathering-old (pre .1 .1) inside turn read (p .0 .left) told written))
           (c .if1 .came),
     )
 
@@ -77,7 +83,7 @@ gather-current-spec =
     is-current-requires
     set-entry-requires
     add-kept
-    (λ c. search needs)
+    add-i
     (λ c. search needs)
     loop-again
     same-length
