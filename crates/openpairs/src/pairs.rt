@@ -154,7 +154,7 @@ fn comes_first_by_key(a: Ranked, b: Ranked) -> bool
 }
 
 // The same. Keys are in the order of the costs, so they are worked out only where neither cost is below the other: for equal costs, which a zero's sign may
-// still tell apart.
+// still tell apart, and for a NaN, which no pair that is open has.
 pub fn comes_first(a: Ranked, b: Ranked) -> bool
     ensures { λ r. ⌜ r ≡ ltb (rank a) (rank b) ⌝ }
 {
