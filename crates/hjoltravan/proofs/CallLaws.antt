@@ -10,9 +10,10 @@ use Rattle.meaning.specs.Input.{Input}
 use Rattle.meaning.specs.Call.{Lent}
 use Rattle.walking.specs.declared.Engine.{Engine}
 use Rattle.thinning.specs.Made.{ThinnedBy}
+use Rattle.thinning.specs.Told.{fiveOf, byReason}
 use Rattle.scanwriter.specs.declared.Writing.{Writing}
 use Rattle.scanwriter.specs.Written.{threeOf, ScanWritten}
-use Rattle.hjoltravan.specs.Calls.{fiveOf, byReason, Called, CalledWithFolds, CalledToWrite}
+use Rattle.hjoltravan.specs.Calls.{Called, CalledWithFolds, CalledToWrite}
 
 -- for options that are the ones asked for
 module _ {made asked : Options} (input : Options → Input) {engine : Engine} {before after : Lent} {folds folds' five closed : List ℕ} {r : Answer}

@@ -1,3 +1,4 @@
 -- What the calls through C share, and that their statements are tight.
 mod CallLaws
+pub mod ServedLaws
 pub mod Determined

@@ -2,13 +2,9 @@
 -- and the writer's, with the answer as three.
 use Prim.Native.Nat.{ℕ}
 use mathlib.Core.Path.{_≡_}
-use mathlib.Core.List.{List, [], _∷_}
-use mathlib.Core.Bool.{Bool}
+use mathlib.Core.List.{List}
 use lib.ListN.{length}
 use lib.Ieee.{Float}
-use Rattle.placement.specs.Choices.{limitOf}
-use Rattle.meaning.specs.declared.Answer.{Answer}
-use Rattle.meaning.specs.declared.Options.{Options}
 use Rattle.meaning.specs.Input.{Input}
 use Rattle.meaning.specs.Outcome.{outcome}
 use Rattle.meaning.specs.declared.Verdict.the-variants.{Admitted}
@@ -16,19 +12,8 @@ use Rattle.meaning.specs.Answers.{verdictOf}
 use Rattle.meaning.specs.Call.{Lent, Answered}
 use Rattle.walking.specs.declared.Engine.{Engine}
 use Rattle.thinning.specs.Made.{MadeBy, ThinnedBy}
+use Rattle.thinning.specs.Told.{fiveOf, byReason}
 use Rattle.scanwriter.specs.Written.{writingOf, threeOf, ScanWritten}
-
--- the options of a call
-abbrev pub optionsOf : (unit : ℕ) (ratio : Float) (preserve limited : Bool) (limit : Float) → Options
-optionsOf unit ratio preserve limited limit = record { unit = unit; ratio = ratio; preserve = preserve; limit = limitOf limited limit }
-
--- number, place, points out, faces out, folds made
-abbrev pub fiveOf : Answer → List ℕ
-fiveOf r = r .number ∷ r .place ∷ r .points ∷ r .faces ∷ r .folds ∷ []
-
--- pairs closed: not linked, squashed, turned over
-abbrev pub byReason : Answer → List ℕ
-byReason r = r .closed .unlinked ∷ r .closed .squashed ∷ r .closed .turned ∷ []
 
 -- the outcome of the input, its answer in the five cells and the three, and how a mesh that is admitted was walked
 pub record Called (engine : Engine) (i : Input) (before after : Lent) (five closed : List ℕ) : Type 0 where

@@ -1,2 +1,3 @@
 -- The C interface's statement.
 pub mod Calls
+pub mod Orders

@@ -5,25 +5,12 @@ ghost use Rattle.bits.specs.Narrow.{narrowBits};
 ghost use Rattle.bits.specs.Order.{orderKey};
 ghost use Rattle.meaning.specs.Call.{lent, inputOf};
 ghost use Rattle.walking.specs.declared.Engine.the-variants.{Plain, Heap};
-ghost use Rattle.hjoltravan.specs.Calls.{optionsOf, fiveOf, byReason, Called, CalledWithFolds, CalledToWrite};
+ghost use Rattle.thinning.specs.Told.{optionsOf, fiveOf, byReason};
+ghost use Rattle.hjoltravan.specs.Calls.{Called, CalledWithFolds, CalledToWrite};
 use meaning::Answer;
-use meaning::Options;
 use scanwriter::Writing;
 use walk::Closings;
 use walking::Engine;
-
-// The options of a call.
-fn options_of(unit: u32, ratio: f32, preserve: bool, limited: bool, limit: f32) -> Options
-    ensures { λ r. ⌜ r ≡ optionsOf unit ratio preserve limited limit ⌝ }
-{
-    let most = placement::limit_of(limited, limit);
-    Options {
-        unit: unit,
-        ratio: ratio,
-        preserve: preserve,
-        limit: most,
-    }
-}
 
 // An answer as five numbers, and the pairs closed as three.
 fn tell(answer: &mut [u32; 5], closed: &mut [u64; 3], r: Answer)
@@ -55,7 +42,7 @@ pub extern "C" fn hjoltravan_thin(
 )
     ensures { λ _. ⌜ Called Heap (inputOf (now (points .entry)) (now (faces .entry)) (now (margin .entry)) (optionsOf unit ratio preserve limited limit) (lent (now («out_points» .entry)) (now («out_faces» .entry)) (now («work_u32» .entry)) (now («work_f32» .entry)) (now («work_f64» .entry)))) (lent (now («out_points» .entry)) (now («out_faces» .entry)) (now («work_u32» .entry)) (now («work_f32» .entry)) (now («work_f64» .entry))) (lent (now («out_points» .exit)) (now («out_faces» .exit)) (now («work_u32» .exit)) (now («work_f32» .exit)) (now («work_f64» .exit))) (now (answer .exit)) (now (closed .exit)) ⌝ }
 {
-    let options = options_of(unit, ratio, preserve, limited, limit);
+    let options = thinning::options_of(unit, ratio, preserve, limited, limit);
     let mut folds = [0u32; 1];
     let r = thinning::thin(
         Engine::Heap,
@@ -94,7 +81,7 @@ pub extern "C" fn hjoltravan_thin_plain(
 )
     ensures { λ _. ⌜ Called Plain (inputOf (now (points .entry)) (now (faces .entry)) (now (margin .entry)) (optionsOf unit ratio preserve limited limit) (lent (now («out_points» .entry)) (now («out_faces» .entry)) (now («work_u32» .entry)) (now («work_f32» .entry)) (now («work_f64» .entry)))) (lent (now («out_points» .entry)) (now («out_faces» .entry)) (now («work_u32» .entry)) (now («work_f32» .entry)) (now («work_f64» .entry))) (lent (now («out_points» .exit)) (now («out_faces» .exit)) (now («work_u32» .exit)) (now («work_f32» .exit)) (now («work_f64» .exit))) (now (answer .exit)) (now (closed .exit)) ⌝ }
 {
-    let options = options_of(unit, ratio, preserve, limited, limit);
+    let options = thinning::options_of(unit, ratio, preserve, limited, limit);
     let mut folds = [0u32; 1];
     let r = thinning::thin(
         Engine::Plain,
@@ -134,7 +121,7 @@ pub extern "C" fn hjoltravan_thin_folds(
 )
     ensures { λ _. ⌜ CalledWithFolds Heap (inputOf (now (points .entry)) (now (faces .entry)) (now (margin .entry)) (optionsOf unit ratio preserve limited limit) (lent (now («out_points» .entry)) (now («out_faces» .entry)) (now («work_u32» .entry)) (now («work_f32» .entry)) (now («work_f64» .entry)))) (lent (now («out_points» .entry)) (now («out_faces» .entry)) (now («work_u32» .entry)) (now («work_f32» .entry)) (now («work_f64» .entry))) (lent (now («out_points» .exit)) (now («out_faces» .exit)) (now («work_u32» .exit)) (now («work_f32» .exit)) (now («work_f64» .exit))) (now (folds .entry)) (now (folds .exit)) (now (answer .exit)) (now (closed .exit)) ⌝ }
 {
-    let options = options_of(unit, ratio, preserve, limited, limit);
+    let options = thinning::options_of(unit, ratio, preserve, limited, limit);
     let r = thinning::thin(
         Engine::Heap,
         points,

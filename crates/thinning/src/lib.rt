@@ -9,6 +9,7 @@ ghost use Rattle.meaning.specs.Outcome as Outcomes;
 ghost use Rattle.meaning.specs.Call.{lent, inputOf, Leaves};
 ghost use Rattle.walking.specs.Contracts.{Working};
 ghost use Rattle.thinning.specs.Made.{ThinnedBy};
+ghost use Rattle.thinning.specs.Told.{optionsOf};
 ghost use Rattle.thinning.specs.Contracts.{Measured, Standing, copyOf, Zeroed, outcomeIn, Finished};
 use meaning::Answer;
 use meaning::Options;
@@ -18,6 +19,19 @@ use walk::Closings;
 use walking::Came;
 use walking::Engine;
 use walking::walked;
+
+// The options of a call, by plain numbers: the limit counts only where the call is limited.
+pub fn options_of(unit: u32, ratio: f32, preserve: bool, limited: bool, limit: f32) -> Options
+    ensures { λ r. ⌜ r ≡ optionsOf unit ratio preserve limited limit ⌝ }
+{
+    let most = placement::limit_of(limited, limit);
+    Options {
+        unit: unit,
+        ratio: ratio,
+        preserve: preserve,
+        limit: most,
+    }
+}
 
 // An answer without a mesh has zeros for it.
 fn without_mesh(number: u32, place: u32, closed: Closings) -> Answer

@@ -1,8 +1,8 @@
--- `hjoltravan::options_of` meets its contract: the limit is the one that is asked for.
+-- `thinning::options_of` meets its contract: the limit is the one that is asked for.
 -- Assumes nothing.
 use borrow.Author.Needs.{needs}
-use Rattle.hjoltravan.proofs.options_of.Statement.{statement}
-use Rattle.hjoltravan.proofs.options_of.Tie as tie
+use Rattle.thinning.proofs.options_of.Statement.{statement}
+use Rattle.thinning.proofs.options_of.Tie as tie
 
 returns : tie.Need-returns
 returns c = rw (c .limit-of .ensures)

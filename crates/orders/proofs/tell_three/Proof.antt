@@ -1,0 +1,14 @@
+-- `orders::tell_three` meets its contract: three stores to three cells.
+-- Assumes nothing.
+use borrow.Author.Needs.{needs}
+use Rattle.orders.proofs.TellLaws.{three-stored}
+use Rattle.orders.proofs.tell_three.Statement.{statement}
+use Rattle.orders.proofs.tell_three.Tie as tie
+
+returns : tie.Need-returns
+returns c = let start = c .before in three-stored (start .args .cells .now) _ _ _ (start .pre)
+
+pub tell-three-spec : {M : Type 1} → statement M
+tell-three-spec =
+    tie.close
+    (tie.spec (λ c. search needs) (λ c. search needs) (λ c. search needs) (λ c. search needs) returns)

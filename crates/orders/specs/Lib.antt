@@ -1,0 +1,4 @@
+-- Many orders in one call.
+pub mod Orders
+pub mod Refused
+pub mod Contracts

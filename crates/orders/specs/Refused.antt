@@ -1,0 +1,51 @@
+-- 41: the calls that are refused as a whole (document 02, wish 5).
+use Prim.Native.Nat.{ℕ, _+_, _*_}
+use mathlib.Core.List.{List}
+use mathlib.Core.Bool.{Bool, _&&_, _||_, cond}
+use lib.Dec.{ltb}
+use lib.ListN.{length}
+use Rattle.lists.specs.Lists.{some, below}
+use Rattle.orders.specs.declared.Part.{Part}
+use Rattle.orders.specs.declared.Order.{Order}
+use Rattle.orders.specs.declared.Buffers.{Buffers}
+use Rattle.orders.specs.Orders.{orderAt}
+
+-- over 64 orders, or a list of answers shorter than the orders: five numbers an order, and three of pairs closed
+abbrev pub tooMany : ℕ → Buffers → Bool
+tooMany orders cells = ltb 64 orders || ltb (cells .answers) (5 * orders) || ltb (cells .closed) (3 * orders)
+
+-- a part lies outside a buffer of so many cells: it ends after the buffer
+abbrev pub outside : Part → ℕ → Bool
+outside p cells = ltb cells (p .from + p .len)
+
+abbrev pub misplaced : Buffers → Order → Bool
+misplaced cells o =
+    outside (o .points) (cells .points)
+    || outside (o .faces) (cells .faces)
+    || outside (o .margin) (cells .margins)
+    || outside (o .«out_points») (cells .«out_points»)
+    || outside (o .«out_faces») (cells .«out_faces»)
+
+-- two parts share a cell: neither is empty, and each begins before the other ends
+abbrev pub share : Part → Part → Bool
+share a b = ltb 0 (a .len) && ltb 0 (b .len) && ltb (a .from) (b .from + b .len) && ltb (b .from) (a .from + a .len)
+
+-- two orders' output parts do: points with points, faces with faces
+abbrev pub clash : Order → Order → Bool
+clash a b = share (a .«out_points») (b .«out_points») || share (a .«out_faces») (b .«out_faces»)
+
+-- the order at a place has an output cell in common with one before it
+abbrev pub clashes : List Order → ℕ → Bool
+clashes orders place = some (λ j. clash (orderAt orders j) (orderAt orders place)) (below place)
+
+abbrev pub badOrder : List Order → Buffers → ℕ → Bool
+badOrder orders cells place = misplaced cells (orderAt orders place) || clashes orders place
+
+-- the whole call
+unfoldable pub refused : List Order → Buffers → Bool
+unfolding some below
+refused orders cells = tooMany (length orders) cells || some (badOrder orders cells) (below (length orders))
+
+-- of a list of any length no more than 64 orders are looked at
+abbrev pub lookedAt : ℕ → ℕ
+lookedAt orders = cond (ltb orders 64) orders 64
