@@ -22,7 +22,7 @@ use Rattle.orders.specs.Refused.{tooMany, outside, misplaced, share, cla
 use Rattle.orders.specs.Contracts.{AsLong, Fits}
 
 -- no number below n passes a test that none does
-none-below : (test : ℕ → Bool) (n k : ℕ) → some test (below n) ≡ false → k < n → test k ≡ false
+pub none-below : (test : ℕ → Bool) (n k : ℕ) → some test (below n) ≡ false → k < n → test k ≡ false
 none-below test n k none less =
     false-of (test k) (λ here. tests.clash (some-from test 0 (below n) k (rw (length-below n) less) (ap test (getD-below n k less) ∙ here)) none)
 

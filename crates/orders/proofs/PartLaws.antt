@@ -1,7 +1,7 @@
 -- Parts of lists: what is read in one and put there, as the code has it; that nothing else changes; and that two lists agree in a part where they agree in
 -- each of its cells.
 -- Assumes nothing.
-use Prim.Native.Nat.{ℕ, _+_, _-_, _*_, _≤_, _<_}
+use Prim.Native.Nat.{ℕ, _+_, _-_, _*_, _≤_, _<_, max}
 use mathlib.Core.Path.{_≡_, sym, ap, _∙_}
 use mathlib.Core.Logic.{_⊎_, inl, inr}
 use mathlib.Core.Bool.{true, false, _&&_}
@@ -14,7 +14,7 @@ use lib.Seq.{getD-take, getD-drop, ext-getD, take-at, drop-at, length-take-le}
 use borrow.Author.Tests.{lt-ltb, ltb-true, ltb-false}
 use borrow.Rule.Slice.PartMut.{putMid, same-len-mid, take-put, drop-put}
 use Rattle.lists.proofs.DropLaws.{past-drop}
-use Rattle.lists.proofs.TestLaws.{by-test, clash}
+use Rattle.lists.proofs.TestLaws.{by-test, clash, both-true}
 use Rattle.orders.specs.declared.Part.{Part}
 use Rattle.orders.specs.Orders.{cellsOf, replaced}
 use Rattle.orders.specs.Refused.{share}
@@ -38,6 +38,22 @@ shared p q c one other =
       lt-ltb (p .from) (q .from + q .len) (omega (arith, one .from, other .to)),
       lt-ltb (q .from) (p .from + p .len) (omega (arith, other .from, one .to)),
     )
+
+-- and where the test says so there is one: the later of the two first cells
+pub shared-cell : (p q : Part) → share p q ≡ true → (c : ℕ) × In p c × In q c
+shared-cell p q all =
+    let p-first = ltb 0 (p .len) in
+    let q-first = ltb 0 (q .len) in
+    let p-in = ltb (p .from) (q .from + q .len) in
+    let q-in = ltb (q .from) (p .from + p .len) in
+    let last = both-true (p-first && q-first && p-in) q-in all in
+    let third = both-true (p-first && q-first) p-in (last .0) in
+    let two = both-true p-first q-first (third .0) in
+    let p-some = ltb-true 0 (p .len) (two .0) in
+    let q-some = ltb-true 0 (q .len) (two .1) in
+    let p-before = ltb-true (p .from) (q .from + q .len) (third .1) in
+    let q-before = ltb-true (q .from) (p .from + p .len) (last .1) in
+    (max (p .from) (q .from), record { from = omega arith; to = omega (arith, p-some, q-before) }, record { from = omega arith; to = omega (arith, q-some, p-before) })
 
 -- so a cell of one lies beside the other, where none is shared
 pub apart : (p q : Part) → share p q ≡ false → (c : ℕ) → In q c → Beside p c
@@ -95,3 +111,12 @@ same-part {A} d p a b within as-long agree = ext-getD d (cellsOf p a) (cellsOf p
 
     at : (cells : List A) (i : ℕ) → i < p .len → getD (cellsOf p cells) i d ≡ getD cells (p .from + i) d
     at cells i less = getD-take (p .len) (drop (p .from) cells) i d less ∙ getD-drop (p .from) cells i d
+
+-- and back: they agree in each cell of a part in which they agree
+pub same-cell : {A : Type 0} (d : A) (p : Part) (a b : List A) (c : ℕ) → In p c → cellsOf p a ≡ cellsOf p b → getD a c d ≡ getD b c d
+same-cell {A} d p a b c inside agree = at a ∙ ap (λ (l : List A). getD l (c - p .from) d) agree ∙ sym (at b)
+  where
+    at : (cells : List A) → getD cells c d ≡ getD (cellsOf p cells) (c - p .from) d
+    at cells =
+        let whole : p .from + (c - p .from) ≡ c = omega (arith, inside .from) in
+        sym (getD-take (p .len) (drop (p .from) cells) (c - p .from) d (omega (arith, inside .from, inside .to)) ∙ getD-drop (p .from) cells (c - p .from) d ∙ ap (λ (i : ℕ). getD cells i d) whole)
