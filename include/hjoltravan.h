@@ -1,5 +1,6 @@
 /* Hjoltravan: thins a triangle mesh, and writes one as a scan file. Every answer is proved to be the one that the statement
-   in crates/meaning/specs/Call.antt gives (of the writer, the one in crates/scanwriter/specs/Written.antt), for any input.
+   in crates/meaning/specs/Call.antt gives (of many orders, the one in crates/hjoltravan/specs/Orders.antt, and of the writer,
+   the one in crates/scanwriter/specs/Written.antt), for any input.
    No allocation, no global state, no errno. */
 #ifndef HJOLTRAVAN_H
 #define HJOLTRAVAN_H
@@ -106,6 +107,67 @@ void hjoltravan_thin_folds(const float *points, size_t points_len, const uint32_
                            double *work_f64, size_t work_f64_len, uint32_t *folds, size_t folds_len, uint32_t answer[5],
                            uint64_t closed[3]);
 
+/* The most orders of a call. */
+#define HJOLTRAVAN_MOST_ORDERS 64
+
+/* Where some cells lie in a buffer: the first of them, from 0, and how many, in elements. */
+typedef struct {
+    size_t from;
+    size_t len;
+} hjoltravan_part;
+
+/* One order of hjoltravan_thin_orders: where its points, its faces and its margin lie in the shared inputs; its options, as in
+   hjoltravan_thin; and its own parts of the two outputs. */
+typedef struct {
+    hjoltravan_part points;
+    hjoltravan_part faces;
+    hjoltravan_part margin;
+    uint32_t unit;
+    float ratio;
+    bool preserve;
+    bool limited;
+    float limit;
+    hjoltravan_part out_points;
+    hjoltravan_part out_faces;
+} hjoltravan_order;
+
+/* How many numbers the lists of answers need for N orders. */
+#define HJOLTRAVAN_ANSWERS(N) (5 * (size_t)(N))
+#define HJOLTRAVAN_CLOSED(N) (3 * (size_t)(N))
+
+/* Thins many orders over one work memory, one after another, each as hjoltravan_thin would alone with its parts as its buffers.
+
+   orders, orders_len   at most 64; none is fine
+   points, faces, margins   the shared inputs. The parts of several orders, of one too, may share cells
+   out_points, out_faces    the outputs. Each order has parts of its own in them, HJOLTRAVAN_OUT_POINTS and HJOLTRAVAN_OUT_FACES
+                            long or longer
+   work_u32, work_f32, work_f64   long enough for the largest order; an order for which they are too short gets 3
+   answers              at least HJOLTRAVAN_ANSWERS numbers: number, place, points out, faces out and folds made of each order, in
+                        their order
+   closed               at least HJOLTRAVAN_CLOSED numbers: the pairs not joined by reason, likewise
+
+   Returns 0, or 41 for the whole call, and then nothing at all is written:
+    - there are more than 64 orders,
+    - answers or closed is shorter than the orders,
+    - a part of an order lies outside its buffer (its first cell plus its length is more than the buffer's length),
+    - two orders have a cell of out_points in common, or one of out_faces. A part with no cells shares none.
+
+   All else is answered order by order, with the numbers of hjoltravan_thin, and an order that is refused doesn't stop the rest.
+   Changing another order changes nothing of an order's answer and output, so long as neither call gets 41 and the order's own
+   input parts hold what they held.
+
+   Outside the orders' parts the outputs stay as they came, and so do answers and closed after the last order. Afterwards the
+   work memory is zero up to the longest stated part of an order that got 0, 10 or 11, and as it came from there on.
+
+   None of the seven lent buffers that are written (the two outputs, the three work memories, answers and closed) may
+   overlap another buffer or the list of orders. */
+uint32_t hjoltravan_thin_orders(const hjoltravan_order *orders, size_t orders_len, const float *points, size_t points_len,
+                                const uint32_t *faces, size_t faces_len, const uint32_t *margins, size_t margins_len,
+                                float *out_points, size_t out_points_len, uint32_t *out_faces, size_t out_faces_len,
+                                uint32_t *work_u32, size_t work_u32_len, float *work_f32, size_t work_f32_len,
+                                double *work_f64, size_t work_f64_len, uint32_t *answers, size_t answers_len,
+                                uint64_t *closed, size_t closed_len);
+
 /* The most points and faces of a scan file, and how many bytes one takes. */
 #define HJOLTRAVAN_FILE_MOST_POINTS 128
 #define HJOLTRAVAN_FILE_MOST_FACES 256
@@ -137,7 +199,7 @@ void hjoltravan_write_scan(uint32_t unit, const float *points, size_t points_len
    whose order is IEEE 754-2019 totalOrder. */
 uint32_t hjoltravan_root(uint32_t bits);
 uint32_t hjoltravan_narrow(uint64_t bits);
-int64_t hjoltravan_order(uint64_t bits);
+int64_t hjoltravan_order_key(uint64_t bits);
 
 #ifdef __cplusplus
 }

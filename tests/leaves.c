@@ -65,7 +65,7 @@ int main(void) {
         uint64_t c = (a & 0x800fffffffffffffull) | (870 + (b >> 1) % 290) << 52;
         if (i & 2) c &= ~0xfffffffull;
         wrong_narrowed += hjoltravan_narrow(c) != own_narrow(c);
-        wrong_ordered += (hjoltravan_order(a) <= hjoltravan_order(b)) != own_order(a, b);
+        wrong_ordered += (hjoltravan_order_key(a) <= hjoltravan_order_key(b)) != own_order(a, b);
     }
     printf("leaves: %d patterns, wrong roots %llu, wrong narrowed %llu, wrong ordered %llu\n", COUNT,
            (unsigned long long)wrong_roots, (unsigned long long)wrong_narrowed, (unsigned long long)wrong_ordered);

@@ -16,9 +16,9 @@ use Rattle.lists.proofs.FirstLaws.{first-of}
 use Rattle.lists.proofs.DropLaws.{past-drop}
 use Rattle.lists.proofs.TestLaws.{by-test, both-true, clash}
 use Rattle.orders.specs.declared.Part.{Part}
-use Rattle.orders.specs.Orders.{part, cellsOf}
+use Rattle.orders.specs.Parts.{part, cellsOf}
 use Rattle.orders.proofs.PartLaws.{In, same-cell}
-use Rattle.orders.proofs.FineLaws.{none-below}
+use Rattle.serving.proofs.FineLaws.{none-below}
 use Rattle.hjoltravan.specs.Orders.{has, RestSame}
 
 -- a cell that a part has

@@ -19,7 +19,8 @@ use Rattle.scanwriter.proofs.Determined.{writing-determined}
 use Rattle.geometry.specs.Constants.{nought}
 use Rattle.lists.proofs.TestLaws.{by-test}
 use Rattle.orders.specs.declared.Order.{Order}
-use Rattle.orders.specs.Orders.{Sources, Desk, desk, buffersOf, orderAt}
+use Rattle.orders.specs.Orders.{orderAt}
+use Rattle.serving.specs.Desks.{Sources, Desk, desk, buffersOf}
 use Rattle.orders.specs.Refused.{refused}
 use Rattle.hjoltravan.specs.Calls.{Called, CalledWithFolds, CalledToWrite}
 use Rattle.hjoltravan.specs.Orders.{inputAt, Served, CalledForOrders}

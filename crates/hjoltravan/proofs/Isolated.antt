@@ -16,7 +16,9 @@ use Rattle.walking.specs.declared.Engine.{Engine}
 use Rattle.walking.specs.declared.Engine.the-variants.{Heap}
 use Rattle.thinning.specs.Told.{optionsOf}
 use Rattle.orders.specs.declared.Order.{Order}
-use Rattle.orders.specs.Orders.{Sources, Desk, buffersOf, cellsOf, fiveAt, threeAt, orderAt}
+use Rattle.orders.specs.Parts.{cellsOf}
+use Rattle.orders.specs.Orders.{orderAt}
+use Rattle.serving.specs.Desks.{Sources, Desk, buffersOf, fiveAt, threeAt}
 use Rattle.orders.specs.Refused.{refused}
 use Rattle.hjoltravan.specs.Calls.{Called}
 use Rattle.hjoltravan.specs.Orders.{inputAt, workAfter, partsWith, Served, CalledForOrders}

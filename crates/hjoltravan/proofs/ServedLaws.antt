@@ -21,12 +21,14 @@ use Rattle.walking.specs.declared.Engine.the-variants.{Heap}
 use Rattle.thinning.specs.Told.{fiveOf, byReason}
 use Rattle.orders.specs.declared.Part.{Part}
 use Rattle.orders.specs.declared.Order.{Order}
-use Rattle.orders.specs.Orders.{Sources, Desk, buffersOf, cellsOf, replaced, fiveAt, threeAt, orderAt, lentTo, inputFor}
+use Rattle.orders.specs.Parts.{cellsOf, replaced}
+use Rattle.orders.specs.Orders.{orderAt}
+use Rattle.serving.specs.Desks.{Sources, Desk, buffersOf, fiveAt, threeAt, lentTo, inputFor}
 use Rattle.orders.specs.Refused.{refused, share}
-use Rattle.orders.specs.Contracts.{AsLong, Fits, OrderDone, OrdersDone, none-yet, one-more}
-use Rattle.orders.proofs.FineLaws.{fine-fits, fine-apart}
+use Rattle.serving.specs.Contracts.{AsLong, Fits, OrderDone, OrdersDone, none-yet, one-more}
+use Rattle.serving.proofs.FineLaws.{fine-fits, fine-apart}
 use Rattle.orders.proofs.PartLaws.{Beside, length-cells}
-use Rattle.orders.proofs.ClearLaws.{left-again}
+use Rattle.serving.proofs.ClearLaws.{left-again}
 use Rattle.orders.proofs.OthersLaws.{WrittenAt, written, in-a-row}
 use Rattle.lists.proofs.DropLaws.{rest-more}
 use Rattle.lists.proofs.TestLaws.{by-test, clash}

@@ -13,7 +13,9 @@ use Rattle.meaning.specs.Call.{Lent, lent, leftAs}
 use Rattle.walking.specs.declared.Engine.the-variants.{Heap}
 use Rattle.orders.specs.declared.Part.{Part}
 use Rattle.orders.specs.declared.Order.{Order}
-use Rattle.orders.specs.Orders.{Sources, Desk, buffersOf, cellsOf, fiveAt, threeAt, orderAt, inputFor}
+use Rattle.orders.specs.Parts.{cellsOf}
+use Rattle.orders.specs.Orders.{orderAt}
+use Rattle.serving.specs.Desks.{Sources, Desk, buffersOf, fiveAt, threeAt, inputFor}
 use Rattle.orders.specs.Refused.{refused}
 use Rattle.hjoltravan.specs.Calls.{Called}
 

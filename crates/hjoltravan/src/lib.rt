@@ -177,7 +177,7 @@ pub extern "C" fn hjoltravan_narrow(bits: u64) -> u32
 
 // The signed key of an f64's bit pattern, whose order is totalOrder.
 #[no_mangle]
-pub extern "C" fn hjoltravan_order(bits: u64) -> i64
+pub extern "C" fn hjoltravan_order_key(bits: u64) -> i64
     ensures { λ r. ⌜ r ≡ orderKey bits ⌝ }
 {
     bits::order::order_bits(bits)

@@ -12,9 +12,8 @@ use lib.ListN.{length, getD, drop}
 use Rattle.lists.proofs.TestLaws.{false-of, both-true}
 use borrow.Author.Tests.{ltb-true}
 use Rattle.orders.specs.declared.Part.{Part}
-use Rattle.orders.specs.Orders.{cellsOf, replaced, part}
+use Rattle.orders.specs.Parts.{part, cellsOf, replaced, Within}
 use Rattle.orders.specs.Refused.{share}
-use Rattle.orders.specs.Contracts.{Within}
 use Rattle.orders.proofs.PartLaws.{In, Beside, apart, length-replaced, cells-replaced, rest-replaced, beside-replaced, same-part}
 
 -- parts of one length in a row share no cell

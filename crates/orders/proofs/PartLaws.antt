@@ -16,9 +16,8 @@ use borrow.Rule.Slice.PartMut.{putMid, same-len-mid, take-put, drop-put}
 use Rattle.lists.proofs.DropLaws.{past-drop}
 use Rattle.lists.proofs.TestLaws.{by-test, clash, both-true}
 use Rattle.orders.specs.declared.Part.{Part}
-use Rattle.orders.specs.Orders.{cellsOf, replaced}
+use Rattle.orders.specs.Parts.{cellsOf, replaced, Within}
 use Rattle.orders.specs.Refused.{share}
-use Rattle.orders.specs.Contracts.{Within}
 
 -- a cell of a part
 pub record In (p : Part) (c : ℕ) : Type 0 where

@@ -1,5 +1,5 @@
 -- What the call for one order asks and leaves, and one order after another.
-use Prim.Native.Nat.{ℕ, suc, _+_, _*_, _≤_}
+use Prim.Native.Nat.{ℕ, suc}
 use mathlib.Core.Path.{_≡_}
 use mathlib.Core.List.{List}
 use lib.ListN.{length}
@@ -8,13 +8,10 @@ use Rattle.meaning.specs.Call.{Lent}
 use Rattle.walking.specs.declared.Engine.the-variants.{Heap}
 use Rattle.thinning.specs.Made.{ThinnedBy}
 use Rattle.thinning.specs.Told.{fiveOf, byReason}
-use Rattle.orders.specs.declared.Part.{Part}
 use Rattle.orders.specs.declared.Order.{Order}
-use Rattle.orders.specs.Orders.{Sources, Desk, fiveAt, threeAt, replaced, orderAt, lentTo, inputFor}
-
--- a part lies in a list
-abbrev pub Within : {A : Type 0} → Part → List A → Type 0
-Within p cells = p .from + p .len ≤ length cells
+use Rattle.orders.specs.Parts.{Within, replaced}
+use Rattle.orders.specs.Orders.{orderAt}
+use Rattle.serving.specs.Desks.{Sources, Desk, fiveAt, threeAt, lentTo, inputFor}
 
 -- every part of an order lies in its buffer, and there is room for its answer at a place
 pub record Fits (s : Sources) (o : Order) (place : ℕ) (d : Desk) : Type 0 where

@@ -14,12 +14,13 @@ use Rattle.lists.proofs.BelowLaws.{length-below, getD-below}
 use Rattle.lists.proofs.EveryLaws.{some-from}
 use Rattle.lists.proofs.TestLaws as tests
 use Rattle.lists.proofs.TestLaws.{neither-of, false-of}
 use Rattle.orders.specs.declared.Part.{Part}
 use Rattle.orders.specs.declared.Order.{Order}
 use Rattle.orders.specs.declared.Buffers.{Buffers}
-use Rattle.orders.specs.Orders.{Sources, Desk, buffersOf, orderAt}
+use Rattle.orders.specs.Orders.{orderAt}
+use Rattle.serving.specs.Desks.{Sources, Desk, buffersOf}
 use Rattle.orders.specs.Refused.{tooMany, outside, misplaced, share, clash, clashes, badOrder, refused}
-use Rattle.orders.specs.Contracts.{AsLong, Fits}
+use Rattle.serving.specs.Contracts.{AsLong, Fits}
 
 -- no number below n passes a test that none does
 pub none-below : (test : ℕ → Bool) (n k : ℕ) → some test (below n) ≡ false → k < n → test k ≡ false

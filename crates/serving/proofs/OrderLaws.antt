@@ -13,11 +13,12 @@ use Rattle.meaning.specs.Call.{Lent, lent, inputOf}
 use Rattle.walking.specs.declared.Engine.the-variants.{Heap}
 use Rattle.thinning.specs.Made.{ThinnedBy}
 use Rattle.thinning.specs.Told.{optionsOf, fiveOf, byReason}
 use Rattle.orders.specs.declared.Part.{Part}
 use Rattle.orders.specs.declared.Order.{Order}
-use Rattle.orders.specs.Orders.{Sources, desk, replaced, fiveAt, threeAt, inputFor, lentTo}
-use Rattle.orders.specs.Contracts.{AsLong, OrderDone}
+use Rattle.orders.specs.Parts.{replaced}
+use Rattle.serving.specs.Desks.{Sources, desk, fiveAt, threeAt, inputFor, lentTo}
+use Rattle.serving.specs.Contracts.{AsLong, OrderDone}
 use Rattle.orders.proofs.PartLaws.{part-put}
 
 -- a part's length, as the code has it: its end less its first cell
 abbrev pub span : Part → ℕ

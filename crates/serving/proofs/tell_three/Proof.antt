@@ -1,9 +1,9 @@
--- `orders::tell_three` meets its contract: three stores to three cells.
+-- `serving::tell_three` meets its contract: three stores to three cells.
 -- Assumes nothing.
 use borrow.Author.Needs.{needs}
-use Rattle.orders.proofs.TellLaws.{three-stored}
-use Rattle.orders.proofs.tell_three.Statement.{statement}
-use Rattle.orders.proofs.tell_three.Tie as tie
+use Rattle.serving.proofs.TellLaws.{three-stored}
+use Rattle.serving.proofs.tell_three.Statement.{statement}
+use Rattle.serving.proofs.tell_three.Tie as tie
 
 returns : tie.Need-returns
 returns c = let start = c .before in three-stored (start .args .cells .now) _ _ _ (start .pre)

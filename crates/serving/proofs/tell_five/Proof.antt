@@ -1,9 +1,9 @@
--- `orders::tell_five` meets its contract: five stores to five cells.
+-- `serving::tell_five` meets its contract: five stores to five cells.
 -- Assumes nothing.
 use borrow.Author.Needs.{needs}
-use Rattle.orders.proofs.TellLaws.{five-stored}
-use Rattle.orders.proofs.tell_five.Statement.{statement}
-use Rattle.orders.proofs.tell_five.Tie as tie
+use Rattle.serving.proofs.TellLaws.{five-stored}
+use Rattle.serving.proofs.tell_five.Statement.{statement}
+use Rattle.serving.proofs.tell_five.Tie as tie
 
 slice-write-cells-5 : tie.Need-slice-write-cells-5
 slice-write-cells-5 c = let five = c .pre in search needs depth 9

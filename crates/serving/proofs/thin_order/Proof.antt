@@ -1,12 +1,12 @@
--- `orders::thin_order` meets its contract: each part lies in its buffer, so that the single call on the parts is made, and what it leaves stands in their place.
+-- `serving::thin_order` meets its contract: each part lies in its buffer, so that the single call on the parts is made, and what it leaves stands in their place.
 -- Assumes nothing.
 use native.Mathlib.Omega.{arith}
 use borrow.Author.Needs.{needs}
 use Rattle.meaning.specs.Call.{lent}
-use Rattle.orders.specs.Orders.{sources}
-use Rattle.orders.proofs.OrderLaws.{order-done}
-use Rattle.orders.proofs.thin_order.Statement.{statement}
-use Rattle.orders.proofs.thin_order.Tie as tie
+use Rattle.serving.specs.Desks.{sources}
+use Rattle.serving.proofs.OrderLaws.{order-done}
+use Rattle.serving.proofs.thin_order.Statement.{statement}
+use Rattle.serving.proofs.thin_order.Tie as tie
 
 add-thin-3 : tie.Need-add-thin-3
 add-thin-3 c =

@@ -1,13 +1,14 @@
--- `orders::tell_at` meets its contract: each list has the numbers in the part at the order's place.
+-- `serving::tell_at` meets its contract: each list has the numbers in the part at the order's place.
 -- Assumes nothing.
 use mathlib.Core.Path.{ap, _∙_}
 use mathlib.Core.List.{List}
 use Prim.Native.Nat.{ℕ}
 use borrow.Author.Needs.{needs}
-use Rattle.orders.specs.Orders.{fiveAt, threeAt, replaced}
+use Rattle.orders.specs.Parts.{replaced}
+use Rattle.serving.specs.Desks.{fiveAt, threeAt}
 use Rattle.orders.proofs.PartLaws.{part-put}
-use Rattle.orders.proofs.tell_at.Statement.{statement}
-use Rattle.orders.proofs.tell_at.Tie as tie
+use Rattle.serving.proofs.tell_at.Statement.{statement}
+use Rattle.serving.proofs.tell_at.Tie as tie
 
 returns : tie.Need-returns
 returns c =
