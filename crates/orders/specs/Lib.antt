@@ -2,3 +2,4 @@
 pub mod Parts
 pub mod Orders
 pub mod Refused
+pub mod Examples
