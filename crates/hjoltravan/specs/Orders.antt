@@ -56,14 +56,18 @@ abbrev pub partsWith : Order → (outputs work : Lent) → Lent
 partsWith o outputs work =
     lent (cellsOf (o .«out_points») (outputs .points)) (cellsOf (o .«out_faces») (outputs .faces)) (work .u32s) (work .f32s) (work .f64s)
 
--- The order at a place, by the statement of a call alone: on its parts, and with the work memory as the orders before it left it. Its answer stands at its
--- place.
+-- what the order at a place is lent: its parts as they came, and the work memory as the orders before it left it
+abbrev pub lentAt : Sources → List Order → Desk → ℕ → Lent
+lentAt s orders before k = partsWith (orderAt orders k) (before .buffers) (workAfter (inputAt s orders before) k (before .buffers))
+
+-- and what it leaves
+abbrev pub leftAt : Sources → List Order → (before after : Desk) → ℕ → Lent
+leftAt s orders before after k = partsWith (orderAt orders k) (after .buffers) (workAfter (inputAt s orders before) (suc k) (before .buffers))
+
+-- the order at a place, by the statement of a call alone, with its answer at its place
 abbrev pub DoneAlone : Sources → List Order → (before after : Desk) → ℕ → Type 0
 DoneAlone s orders before after k =
-    Called Heap (inputAt s orders before k)
-    (partsWith (orderAt orders k) (before .buffers) (workAfter (inputAt s orders before) k (before .buffers)))
-    (partsWith (orderAt orders k) (after .buffers) (workAfter (inputAt s orders before) (suc k) (before .buffers)))
-    (cellsOf (fiveAt k) (after .answers)) (cellsOf (threeAt k) (after .closed))
+    Called Heap (inputAt s orders before k) (lentAt s orders before k) (leftAt s orders before after k) (cellsOf (fiveAt k) (after .answers)) (cellsOf (threeAt k) (after .closed))
 
 -- whether a part has a cell
 abbrev pub has : Part → ℕ → Bool
