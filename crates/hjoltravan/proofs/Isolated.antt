@@ -1,7 +1,7 @@
 -- What a call with many orders promises (document 02, wish 5): each order's answer and output are those of a call alone; and two calls that have the same
 -- order at a place, with the same cells in its own parts, agree on its answer and its output, whatever the other orders are.
 -- Assumes nothing.
-use Prim.Native.Nat.{ℕ, suc, _<_}
+use Prim.Native.Nat.{ℕ, _<_}
 use mathlib.Core.Path.{_≡_, sym, ap, subst, _∙_}
 use mathlib.Core.Logic.{_≢_}
 use mathlib.Core.List.{List}
@@ -21,7 +21,7 @@ use Rattle.orders.specs.Orders.{orderAt}
 use Rattle.serving.specs.Desks.{Sources, Desk, buffersOf, fiveAt, threeAt}
 use Rattle.orders.specs.Refused.{refused}
 use Rattle.hjoltravan.specs.Calls.{Called}
-use Rattle.hjoltravan.specs.Orders.{inputAt, workAfter, partsWith, Served, CalledForOrders}
+use Rattle.hjoltravan.specs.Orders.{inputAt, lentAt, leftAt, Served, CalledForOrders}
 
 -- what an order is told and given: its answer, the pairs closed, and its parts of the outputs
 pub record Got : Type 0 where
@@ -108,9 +108,6 @@ pub isolated : (k : ℕ) (orders orders' : List Order) (s s' : Sources) {before 
     k < length orders → k < length orders' → SameHere k orders orders' s s' before before' → gotAt orders after k ≡ gotAt orders' after' k
 isolated k orders orders' s s' {before} {before'} {after} {after'} call other call' other' less less' here =
     as-alone orders s call other k less (sym (here .points-out)) (sym (here .faces-out))
-    (subst (λ (i : Input).
-    Called Heap i
-    (partsWith (orderAt orders' k) (before' .buffers) (workAfter (inputAt s' orders' before') k (before' .buffers)))
-    (partsWith (orderAt orders' k) (after' .buffers) (workAfter (inputAt s' orders' before') (suc k) (before' .buffers)))
-    (cellsOf (fiveAt k) (after' .answers)) (cellsOf (threeAt k) (after' .closed)))
+    (subst
+    (λ (i : Input). Called Heap i (lentAt s' orders' before' k) (leftAt s' orders' before' after' k) (cellsOf (fiveAt k) (after' .answers)) (cellsOf (threeAt k) (after' .closed)))
     (same-input k orders orders' s s' before before' here) (not-41 orders' s' call' other' .each k less'))

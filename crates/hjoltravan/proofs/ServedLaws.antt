@@ -33,7 +33,7 @@ use Rattle.orders.proofs.OthersLaws.{WrittenAt, written, in-a-row}
 use Rattle.lists.proofs.DropLaws.{rest-more}
 use Rattle.lists.proofs.TestLaws.{by-test, clash}
 use Rattle.hjoltravan.specs.Calls.{Called}
-use Rattle.hjoltravan.specs.Orders.{inputAt, statedU32s, statedF32s, statedF64s, longest, workAfter, partsWith, DoneAlone, has, ElseSame, RestSame, Served, CalledForOrders}
+use Rattle.hjoltravan.specs.Orders.{inputAt, statedU32s, statedF32s, statedF64s, longest, workAfter, lentAt, DoneAlone, has, ElseSame, RestSame, Served, CalledForOrders}
 use Rattle.hjoltravan.proofs.CallLaws.{called}
 
 -- a cell that a part doesn't have lies beside it
@@ -126,7 +126,7 @@ module _ (s : Sources) (orders : List Order) (before : Desk) (fine : refused ord
         }
 
     -- and so is what it is lent
-    same-lent : lentTo o (d .buffers) ≡ partsWith o (before .buffers) (workAfter input k (before .buffers))
+    same-lent : lentTo o (d .buffers) ≡ lentAt s orders before k
     same-lent t =
         lent (so-far .points-ahead k (omega arith) less t) (so-far .faces-ahead k (omega arith) less t) (so-far .u32s-left t) (so-far .f32s-left t) (so-far .f64s-left t)
 
@@ -156,7 +156,7 @@ module _ (s : Sources) (orders : List Order) (before : Desk) (fine : refused ord
         let other : j ≢ k = λ same. lt-irrefl k (subst (λ (m : ℕ). m < k) same less-j) in
         let work = workAfter input (suc j) (before .buffers) in
         coe 1 0 (t.
-        Called Heap (input j) (partsWith (orderAt orders j) (before .buffers) (workAfter input j (before .buffers)))
+        Called Heap (input j) (lentAt s orders before j)
         (lent (points-written .others j here other t) (faces-written .others j here other t) (work .u32s) (work .f32s) (work .f64s))
         (answer-written .others j here other t) (closed-written .others j here other t))
         (so-far .each j less-j)
