@@ -54,7 +54,7 @@ served-determined orders s before {after₁} {after₂} a b t =
   where
     -- what each order got is determined by its own statement
     got : (k : ℕ) → k < length orders → gotAt orders after₁ k ≡ gotAt orders after₂ k
-    got k less = same-calls (inputAt s orders before k) refl refl (a .each k less) (b .each k less)
+    got k less = same-calls {i = inputAt s orders before k} refl refl refl (a .each k less) (b .each k less)
 
     points : after₁ .buffers .points ≡ after₂ .buffers .points
     points =

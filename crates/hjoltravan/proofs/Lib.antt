@@ -3,4 +3,5 @@ mod CallLaws
 pub mod ServedLaws
 pub mod Isolated
 mod CoveredLaws
+mod RoomLaws
 pub mod Determined
