@@ -165,26 +165,21 @@ module _ (s : Sources) (orders : List Order) (before : Desk) (fine : refused ord
     abbrev alone : Answered (inputFor s (d .buffers) o) (lentTo o (d .buffers)) (done .left) (done .answer)
     alone = done .thinned .thinned .answered
 
-    u32s-after : done .left .u32s ≡ workAfter input (suc k) (before .buffers) .u32s
+    work-after : {A : Type 0} (nil : A) (stated : Input → ℕ) (old : List A) {now left : List A} → now ≡ leftAs true (longest stated input k) nil old →
+        left ≡ leftAs (outcome (inputFor s (d .buffers) o) .worked) (stated (inputFor s (d .buffers) o)) nil now → left ≡ leftAs true (longest stated input (suc k)) nil old
     unfolding longest
-    u32s-after =
-        alone .u32s-left
-        ∙ (λ t. leftAs (outcome (same-input t) .worked) (statedU32s (same-input t)) 0 (so-far .u32s-left t))
-        ∙ left-again 0 (outcome (input k) .worked) (longest statedU32s input k) (statedU32s (input k)) (before .buffers .u32s)
+    work-after nil stated old so-far left-now =
+        left-now ∙ (λ t. leftAs (outcome (same-input t) .worked) (stated (same-input t)) nil (so-far t))
+        ∙ left-again nil (outcome (input k) .worked) (longest stated input k) (stated (input k)) old
+
+    u32s-after : done .left .u32s ≡ workAfter input (suc k) (before .buffers) .u32s
+    u32s-after = work-after 0 statedU32s (before .buffers .u32s) (so-far .u32s-left) (alone .u32s-left)
 
     f32s-after : done .left .f32s ≡ workAfter input (suc k) (before .buffers) .f32s
-    unfolding longest
-    f32s-after =
-        alone .f32s-left
-        ∙ (λ t. leftAs (outcome (same-input t) .worked) (statedF32s (same-input t)) nought (so-far .f32s-left t))
-        ∙ left-again nought (outcome (input k) .worked) (longest statedF32s input k) (statedF32s (input k)) (before .buffers .f32s)
+    f32s-after = work-after nought statedF32s (before .buffers .f32s) (so-far .f32s-left) (alone .f32s-left)
 
     f64s-after : done .left .f64s ≡ workAfter input (suc k) (before .buffers) .f64s
-    unfolding longest
-    f64s-after =
-        alone .f64s-left
-        ∙ (λ t. leftAs (outcome (same-input t) .worked) (statedF64s (same-input t)) nought (so-far .f64s-left t))
-        ∙ left-again nought (outcome (input k) .worked) (longest statedF64s input k) (statedF64s (input k)) (before .buffers .f64s)
+    f64s-after = work-after nought statedF64s (before .buffers .f64s) (so-far .f64s-left) (alone .f64s-left)
 
     -- the order itself is done alone
     now-done : DoneAlone s orders before d' k
