@@ -6,9 +6,14 @@ ghost use Rattle.bits.specs.Order.{orderKey};
 ghost use Rattle.meaning.specs.Call.{lent, inputOf};
 ghost use Rattle.walking.specs.declared.Engine.the-variants.{Plain, Heap};
 ghost use Rattle.thinning.specs.Told.{optionsOf, fiveOf, byReason};
+ghost use Rattle.serving.specs.Desks.{sources, desk};
+ghost use Rattle.hjoltravan.specs.Orders.{CalledForOrders};
 ghost use Rattle.hjoltravan.specs.Calls.{Called, CalledWithFolds, CalledToWrite};
 use meaning::Answer;
+use orders::Buffers;
+use orders::Order;
 use scanwriter::Writing;
+use serving::thin_order;
 use walk::Closings;
 use walking::Engine;
 
@@ -136,6 +141,56 @@ pub extern "C" fn hjoltravan_thin_folds(
         folds,
     );
     tell(answer, closed, r);
+}
+
+// Thins many orders, each on its own parts of the buffers and as if it were alone.
+#[no_mangle]
+pub extern "C" fn hjoltravan_thin_orders(
+    orders: &[Order],
+    points: &[f32],
+    faces: &[u32],
+    margins: &[u32],
+    out_points: &mut [f32],
+    out_faces: &mut [u32],
+    work_u32: &mut [u32],
+    work_f32: &mut [f32],
+    work_f64: &mut [f64],
+    answers: &mut [u32],
+    closed: &mut [u64],
+) -> u32
+    ensures { λ r. ⌜ CalledForOrders (now (orders .entry)) (sources (now (points .entry)) (now (faces .entry)) (now (margins .entry))) (desk (lent (now («out_points» .entry)) (now («out_faces» .entry)) (now («work_u32» .entry)) (now («work_f32» .entry)) (now («work_f64» .entry))) (now (answers .entry)) (now (closed .entry))) (desk (lent (now («out_points» .exit)) (now («out_faces» .exit)) (now («work_u32» .exit)) (now («work_f32» .exit)) (now («work_f64» .exit))) (now (answers .exit)) (now (closed .exit))) r ⌝ }
+{
+    let cells = Buffers {
+        points: points.len(),
+        faces: faces.len(),
+        margins: margins.len(),
+        out_points: out_points.len(),
+        out_faces: out_faces.len(),
+        answers: answers.len(),
+        closed: closed.len(),
+    };
+    if orders::refused(orders, cells) {
+        return 41;
+    }
+    let mut k = 0;
+    while k < orders.len() {
+        thin_order(
+            orders[k],
+            k,
+            points,
+            faces,
+            margins,
+            out_points,
+            out_faces,
+            work_u32,
+            work_f32,
+            work_f64,
+            answers,
+            closed,
+        );
+        k = k + 1;
+    }
+    0
 }
 
 // Writes a mesh and its unit as a file.
