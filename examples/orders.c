@@ -34,7 +34,7 @@ static void print_answer(int order, const uint32_t a[5]) {
     if (a[0] != 0)
         printf("order %d: answer %u place %u\n", order, a[0], a[1]);
     else
-        printf("order %d: %u points and %u faces are left after %u folds\n", order, a[2], a[3], a[4]);
+        printf("order %d: %u points and %u faces are left, folds made: %u\n", order, a[2], a[3], a[4]);
 }
 
 int main(void) {

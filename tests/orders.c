@@ -44,6 +44,9 @@ typedef struct {
     uint64_t closed[3 * 66 + GUARD];
 } desk;
 
+/* Every byte, those between the buffers too. */
+static void set(desk *to, const desk *from) { memcpy(to, from, sizeof *to); }
+
 /* Every byte something: any bits but a NaN's, which may be changed in passing from one register to another. */
 static void fill(void *cells, size_t bytes) {
     for (size_t i = 0; i < bytes; i++) ((uint8_t *)cells)[i] = (uint8_t)any(0x3f);
@@ -72,7 +75,7 @@ static void lay_mesh(int m) {
             memcpy(f + nf, two, sizeof two), nf += 6;
         }
     for (uint32_t i = 0; i < v && nm < 4; i += 1 + any(v)) held[nm++] = i;
-    switch (any(12)) { /* refused by 1, 4, 7, 8, 9 and 12 */
+    switch (any(24)) { /* refused by 1, 4, 7, 8, 9 and 12 */
     case 0: np -= any(3); break;
     case 1: np = 0; break;
     case 2: p[any((uint32_t)np)] = any(2) ? INFINITY : 2000000; break;
@@ -91,12 +94,12 @@ static void lay_pool(void) {
 }
 
 static void any_options(hjoltravan_order *o) {
-    static const float ratios[] = {0, 0.25f, 0.5f, 0.5f, 0.75f, 1, 1, -1, NAN};
-    o->unit = any(9) ? 1 + any(2) : any(4);
+    static const float ratios[] = {0, 0.25f, 0.5f, 0.5f, 0.5f, 0.75f, 0.75f, 0.9f, 0.9f, 0.9f, 1, 1, 1, 1, -1, NAN};
+    o->unit = any(20) ? 1 + any(2) : any(4);
     o->ratio = ratios[any(sizeof ratios / sizeof *ratios)];
     o->preserve = any(2);
     o->limited = any(3) == 0;
-    o->limit = any(8) ? 1 + 0.5f * (float)any(4) : NAN;
+    o->limit = any(12) ? 1 + 0.5f * (float)any(4) : NAN;
 }
 
 /* Parts of a buffer for n orders, in an order of their own: touching, with gaps, or empty. Returns how many cells they take. */
@@ -128,8 +131,8 @@ static void any_orders(int n) {
         orders[k].points = mesh_points[m], orders[k].faces = mesh_faces[m];
         orders[k].margin = any(2) ? mesh_margin[m] : (hjoltravan_part){any((uint32_t)margins_len + 1), 0};
         any_options(&orders[k]);
-        want_points[k] = any(12) ? orders[k].points.len + any(4) : any(5); /* now and then too short: 3 */
-        want_faces[k] = any(12) ? orders[k].faces.len + any(4) : 0;
+        want_points[k] = any(20) ? orders[k].points.len + any(4) : any(5); /* now and then too short: 3 */
+        want_faces[k] = any(20) ? orders[k].faces.len + any(4) : 0;
     }
     out_points_len = deal(out_points, want_points, n) + any(3);
     out_faces_len = deal(out_faces, want_faces, n) + any(3);
@@ -171,7 +174,7 @@ static void check_work(int n, long round) {
         longer(&p, HJOLTRAVAN_WORK_F32(v, f), together.answers[5 * k]);
         longer(&q, HJOLTRAVAN_WORK_F64(v, f), together.answers[5 * k]);
     }
-    other = before;
+    set(&other, &before);
     memset(other.u, 0, u * sizeof *other.u);
     memset(other.p, 0, p * sizeof *other.p);
     memset(other.q, 0, q * sizeof *other.q);
@@ -189,12 +192,13 @@ static bool same_order(const desk *a, const desk *b, int k) {
 
 /* All orders at once, one after another, and each alone over a work memory of its own. */
 static void check_alone(int n, long round) {
-    together = alone = before;
+    set(&together, &before);
+    set(&alone, &before);
     if (thin_orders(&together, (size_t)n, 5 * 66, 3 * 66) != 0) fail("a good call is refused", round);
     for (int k = 0; k < n; k++) thin_alone(&alone, &alone, k, alone.answers + 5 * k, alone.closed + 3 * k);
     if (memcmp(&together, &alone, sizeof together)) fail("together isn't one after another", round);
     for (int k = 0; k < n; k++) {
-        other = before;
+        set(&other, &before);
         fill(fresh.u, sizeof fresh.u), fill(fresh.p, sizeof fresh.p), fill(fresh.q, sizeof fresh.q);
         thin_alone(&other, &fresh, k, other.answers + 5 * k, other.closed + 3 * k);
         if (!same_order(&together, &other, k)) fail("an order isn't as alone", round);
@@ -215,7 +219,7 @@ static void check_isolated(int n, long round) {
         if ((i < orders[k].points.from || i >= orders[k].points.from + orders[k].points.len) && any(4) == 0) points[i] = (float)any(9);
     for (size_t i = 0; i < faces_len; i++)
         if ((i < orders[k].faces.from || i >= orders[k].faces.from + orders[k].faces.len) && any(9) == 0) faces[i] = any(30);
-    fresh = before;
+    set(&fresh, &before);
     if (thin_orders(&fresh, (size_t)n, 5 * 66, 3 * 66) != 0) fail("a changed call is refused", round);
     if (!same_order(&fresh, &together, k)) fail("another order's change is seen", round);
     memcpy(points, old_points, sizeof points), memcpy(faces, old_faces, sizeof faces);
@@ -252,7 +256,7 @@ static unsigned refusals, accepted;
 /* A call that is refused writes nothing; one that isn't is answered 0. */
 static void check_whole(int n, size_t answers, size_t closed, long number) {
     const bool expected = to_be_refused(n, answers, closed);
-    together = before;
+    set(&together, &before);
     const uint32_t got = thin_orders(&together, (size_t)n, answers, closed);
     if (got != (expected ? 41 : 0)) fail("the whole call's number is wrong", number);
     if (expected && memcmp(&together, &before, sizeof before)) fail("a refused call has written", number);
