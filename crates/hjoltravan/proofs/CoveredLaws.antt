@@ -10,15 +10,13 @@ use lib.Dec.{ltb, leb}
 use lib.ListN.{length, getD, drop}
 use lib.Seq.{ext-getD}
 use borrow.Author.Tests.{lt-ltb, le-leb, ltb-true, ltb-false, leb-true}
-use Rattle.lists.specs.Lists.{some, below, firstOf}
-use Rattle.lists.proofs.BelowLaws.{length-below, getD-below}
-use Rattle.lists.proofs.FirstLaws.{first-of}
+use Rattle.lists.specs.Lists.{some, below}
 use Rattle.lists.proofs.DropLaws.{past-drop}
 use Rattle.lists.proofs.TestLaws.{by-test, both-true, clash}
 use Rattle.orders.specs.declared.Part.{Part}
-use Rattle.orders.specs.Parts.{part, cellsOf}
-use Rattle.orders.proofs.PartLaws.{In, same-cell}
-use Rattle.serving.proofs.FineLaws.{none-below}
+use Rattle.orders.specs.Parts.{part, cellsOf, In}
+use Rattle.orders.proofs.PartLaws.{same-cell}
+use Rattle.orders.proofs.FineLaws.{none-below, one-below}
 use Rattle.hjoltravan.specs.Orders.{has, RestSame}
 
 -- a cell that a part has
@@ -26,13 +24,6 @@ inside : (p : Part) (c : ℕ) → has p c ≡ true → In p c
 inside p c both =
     let two = both-true (leb (p .from) c) (ltb c (p .from + p .len)) both in
     record { from = leb-true (p .from) c (two .0); to = ltb-true c (p .from + p .len) (two .1) }
-
--- one of the numbers below n passes a test that some do
-one-below : (test : ℕ → Bool) (n : ℕ) → some test (below n) ≡ true → (k : ℕ) × (k < n) × (test k ≡ true)
-one-below test n found =
-    let first = first-of test 0 (below n) found in
-    let less = rw (length-below n) at (first .within) in
-    (firstOf test (below n), less, ap test (sym (getD-below n (firstOf test (below n)) less)) ∙ first .passes)
 
 module _ {A : Type 0} (past : A) (parts : ℕ → Part) (n : ℕ) (a b : List A) where
   pub covered : length a ≡ length b → ((k : ℕ) → k < n → cellsOf (parts k) a ≡ cellsOf (parts k) b) →

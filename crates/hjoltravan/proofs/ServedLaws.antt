@@ -26,7 +26,8 @@ use Rattle.orders.specs.Orders.{orderAt}
 use Rattle.serving.specs.Desks.{Sources, Desk, buffersOf, fiveAt, threeAt, lentTo, inputFor}
 use Rattle.orders.specs.Refused.{refused, share}
 use Rattle.serving.specs.Contracts.{AsLong, Fits, OrderDone, OrdersDone, none-yet, one-more}
-use Rattle.serving.proofs.FineLaws.{fine-fits, fine-apart}
+use Rattle.orders.proofs.FineLaws.{fine-apart}
+use Rattle.serving.proofs.FineLaws.{fine-fits}
 use Rattle.orders.proofs.PartLaws.{Beside, length-cells}
 use Rattle.serving.proofs.ClearLaws.{left-again}
 use Rattle.orders.proofs.OthersLaws.{WrittenAt, written, in-a-row}
@@ -133,12 +134,12 @@ module _ (s : Sources) (orders : List Order) (before : Desk) (fine : refused ord
     -- the four lists of which it writes a part of its own
     points-written : WrittenAt pointsPart (length orders) k (d .buffers .points) (d' .buffers .points) (done .left .points)
     points-written =
-        written nought pointsPart less (λ j less-j. fits j less-j .points-out) (λ j less-j other. fine-apart s orders before fine k j less less-j (λ same. other (sym same)) .0)
+        written nought pointsPart less (λ j less-j. fits j less-j .points-out) (λ j less-j other. fine-apart orders (buffersOf s before) fine k j less less-j (λ same. other (sym same)) .0)
         (done .as-long .points ∙ length-cells (pointsPart k) (d .buffers .points) (fits k less .points-out)) (done .points-out)
 
     faces-written : WrittenAt facesPart (length orders) k (d .buffers .faces) (d' .buffers .faces) (done .left .faces)
     faces-written =
-        written 0 facesPart less (λ j less-j. fits j less-j .faces-out) (λ j less-j other. fine-apart s orders before fine k j less less-j (λ same. other (sym same)) .1)
+        written 0 facesPart less (λ j less-j. fits j less-j .faces-out) (λ j less-j other. fine-apart orders (buffersOf s before) fine k j less less-j (λ same. other (sym same)) .1)
         (done .as-long .faces ∙ length-cells (facesPart k) (d .buffers .faces) (fits k less .faces-out)) (done .faces-out)
 
     answer-written : WrittenAt fiveAt (length orders) k (d .answers) (d' .answers) (fiveOf (done .answer))

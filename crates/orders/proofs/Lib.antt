@@ -3,5 +3,7 @@ mod RefusedLaws
 mod LoopLaws
 pub mod PartLaws
 pub mod OthersLaws
+pub mod FineLaws
+pub mod FaultLaws
 pub mod WalkSteps
 pub mod OrderSteps

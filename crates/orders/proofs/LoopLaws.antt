@@ -15,7 +15,8 @@ use Rattle.lists.proofs.TestLaws.{by-test}
 use Rattle.orders.specs.declared.Order.{Order}
 use Rattle.orders.specs.declared.Buffers.{Buffers}
 use Rattle.orders.specs.Orders.{orderAt}
-use Rattle.orders.specs.Refused.{tooMany, misplaced, clashes, badOrder, lookedAt, refused}
+use Rattle.orders.specs.Refused.{tooMany, misplaced, clashes, badOrder, refused}
+use Rattle.orders.specs.Contracts.{lookedAt}
 
 -- none yet
 pub some-none : (test : ℕ → Bool) → some test (below 0) ≡ false

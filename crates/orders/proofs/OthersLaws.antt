@@ -14,7 +14,7 @@ use borrow.Author.Tests.{ltb-true}
 use Rattle.orders.specs.declared.Part.{Part}
 use Rattle.orders.specs.Parts.{part, cellsOf, replaced, Within}
 use Rattle.orders.specs.Refused.{share}
-use Rattle.orders.proofs.PartLaws.{In, Beside, apart, length-replaced, cells-replaced, rest-replaced, beside-replaced, same-part}
+use Rattle.orders.proofs.PartLaws.{Beside, apart, length-replaced, cells-replaced, rest-replaced, beside-replaced, same-part}
 
 -- parts of one length in a row share no cell
 pub in-a-row : (size j k : ℕ) → j ≢ k → share (part (size * j) size) (part (size * k) size) ≡ false

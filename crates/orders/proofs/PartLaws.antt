@@ -16,15 +16,10 @@ use borrow.Rule.Slice.PartMut.{putMid, same-len-mid, take-put, drop-put}
 use Rattle.lists.proofs.DropLaws.{past-drop}
 use Rattle.lists.proofs.TestLaws.{by-test, clash, both-true}
 use Rattle.orders.specs.declared.Part.{Part}
-use Rattle.orders.specs.Parts.{cellsOf, replaced, Within}
+use Rattle.orders.specs.Parts.{cellsOf, replaced, Within, In}
 use Rattle.orders.specs.Refused.{share}
 
--- a cell of a part
-pub record In (p : Part) (c : ℕ) : Type 0 where
-  pub from : p .from ≤ c
-  pub to : c < p .from + p .len
-
--- a cell before it or after it
+-- a cell before a part or after it
 abbrev pub Beside : Part → ℕ → Type 0
 Beside p c = (c < p .from) ⊎ (p .from + p .len ≤ c)
 

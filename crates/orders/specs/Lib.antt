@@ -3,3 +3,4 @@ pub mod Parts
 pub mod Orders
 pub mod Refused
 pub mod Examples
+pub mod Contracts

@@ -4,6 +4,7 @@ ghost use Prim.Native.Nat.{_+_, _<_};
 ghost use lib.Dec.{ltb};
 ghost use lib.ListN.{length};
 ghost use Rattle.orders.specs.Refused as Refused;
+ghost use Rattle.orders.specs.Contracts.{lookedAt};
 
 // The most orders of a call.
 pub const MOST_ORDERS: usize = 64;
@@ -105,7 +106,7 @@ fn too_many(orders: usize, cells: Buffers) -> bool
 
 // The orders that are looked at: no more than a call takes, however long the list.
 fn looked_at(orders: usize) -> usize
-    ensures { λ r. ⌜ r ≡ Refused.lookedAt orders ⌝ }
+    ensures { λ r. ⌜ r ≡ lookedAt orders ⌝ }
 {
     if orders < MOST_ORDERS {
         return orders;

@@ -45,6 +45,7 @@ use Rattle.orders.specs.declared.Order.{Order}
 use Rattle.orders.specs.declared.Buffers.{Buffers}
 use Rattle.orders.specs.Orders.{orderAt}
 use Rattle.orders.specs.Refused as Refused
+use Rattle.orders.specs.Contracts.{lookedAt}
 use Rattle.orders.proofs.LoopLaws.{looked-most, found, found-none, found-next, found-all}
 use Rattle.orders.proofs.WalkSteps.{Upto, Nearer, nearer-wf, one-on, held, whiles, told, calls-for, calls-plain, dying, frees-all}
 use Rattle.orders.proofs.OrderSteps.{vals, order-makes, ordersTy, Orders, orders-twice, reads-order}
@@ -102,7 +103,7 @@ module _ {M : Type 1} (𝓤 : URA M) (H : Heap 𝓤) (A : Atoms 𝓤) (W : Given
     (room : Room T.the-row (length (now x))) (isCells : Is B.the-row cells (B′.lowered cells ∷ [])) where
   -- how many orders are looked at
   abbrev n : ℕ
-  n = Refused.lookedAt (length (now x))
+  n = lookedAt (length (now x))
 
   -- the machine values that are passed, what the triple binds outside, and what is to hold at exit
   abbrev at : Vals refused.signature (κ, tt)
