@@ -21,6 +21,13 @@ enum {
     WORK_F64 = 16 * MOST_V + 6 * MOST_F + 3
 };
 
+/* An order as the library reads it: its fields one after another, 96 bytes. */
+_Static_assert(sizeof(hjoltravan_part) == 16 && offsetof(hjoltravan_part, len) == 8, "a part is two numbers of 64 bits");
+_Static_assert(offsetof(hjoltravan_order, margin) == 32 && offsetof(hjoltravan_order, unit) == 48 && offsetof(hjoltravan_order, preserve) == 56 &&
+                   offsetof(hjoltravan_order, limited) == 57 && offsetof(hjoltravan_order, limit) == 60 && offsetof(hjoltravan_order, out_points) == 64 &&
+                   sizeof(hjoltravan_order) == 96,
+               "an order's fields lie where the library has them");
+
 static unsigned failed;
 static void fail(const char *what, long number) {
     if (failed++ < 20) printf("orders: %s (%ld)\n", what, number);
@@ -47,9 +54,13 @@ typedef struct {
 /* Every byte, those between the buffers too. */
 static void set(desk *to, const desk *from) { memcpy(to, from, sizeof *to); }
 
-/* Every byte something: any bits but a NaN's, which may be changed in passing from one register to another. */
+/* Any bits, those of NaNs, quiet and signalling, among them: a cell that stays as it came keeps them. */
 static void fill(void *cells, size_t bytes) {
-    for (size_t i = 0; i < bytes; i++) ((uint8_t *)cells)[i] = (uint8_t)any(0x3f);
+    static const uint32_t ones[] = {0, 0x7f800001, 0x7ff00001}; /* any word, a NaN of 32 bits, the upper half of one of 64 */
+    for (size_t i = 0; i < bytes; i += 4) {
+        const uint32_t word = (any(65536) << 16 | any(65536)) | ones[any(3)];
+        memcpy((uint8_t *)cells + i, &word, 4);
+    }
 }
 
 /* ---- the shared inputs: meshes side by side, some of them bad */
@@ -207,22 +218,27 @@ static void check_alone(int n, long round) {
     check_work(n, round);
 }
 
-/* One order's options and all inputs that another order doesn't have are changed: the other's answer and output stay. */
+/* Whether a part has a cell. */
+static bool has(hjoltravan_part p, size_t cell) { return p.from <= cell && cell < p.from + p.len; }
+
+/* The options of all orders but one, and input cells that the one doesn't have, are changed: its answer and output stay. */
 static void check_isolated(int n, long round) {
     static float old_points[sizeof points / sizeof *points];
-    static uint32_t old_faces[sizeof faces / sizeof *faces];
+    static uint32_t old_faces[sizeof faces / sizeof *faces], old_margins[sizeof margins / sizeof *margins];
     const int k = (int)any((uint32_t)n);
-    memcpy(old_points, points, sizeof points), memcpy(old_faces, faces, sizeof faces);
+    memcpy(old_points, points, sizeof points), memcpy(old_faces, faces, sizeof faces), memcpy(old_margins, margins, sizeof margins);
     for (int i = 0; i < n; i++)
         if (i != k) any_options(&orders[i]);
     for (size_t i = 0; i < points_len; i++)
-        if ((i < orders[k].points.from || i >= orders[k].points.from + orders[k].points.len) && any(4) == 0) points[i] = (float)any(9);
+        if (!has(orders[k].points, i) && any(4) == 0) points[i] = (float)any(9);
     for (size_t i = 0; i < faces_len; i++)
-        if ((i < orders[k].faces.from || i >= orders[k].faces.from + orders[k].faces.len) && any(9) == 0) faces[i] = any(30);
+        if (!has(orders[k].faces, i) && any(9) == 0) faces[i] = any(30);
+    for (size_t i = 0; i < margins_len; i++)
+        if (!has(orders[k].margin, i) && any(2) == 0) margins[i] = any(30);
     set(&fresh, &before);
     if (thin_orders(&fresh, (size_t)n, 5 * 66, 3 * 66) != 0) fail("a changed call is refused", round);
     if (!same_order(&fresh, &together, k)) fail("another order's change is seen", round);
-    memcpy(points, old_points, sizeof points), memcpy(faces, old_faces, sizeof faces);
+    memcpy(points, old_points, sizeof points), memcpy(faces, old_faces, sizeof faces), memcpy(margins, old_margins, sizeof margins);
 }
 
 /* ---- the whole call refused, by this file's own rule */
