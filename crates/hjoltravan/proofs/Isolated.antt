@@ -14,13 +14,13 @@ use Rattle.meaning.specs.declared.Rooms.{Rooms}
 use Rattle.meaning.specs.Input.{Input, pointsIn, facesIn}
 use Rattle.meaning.specs.Answers.{short}
 use Rattle.meaning.specs.Outcome.{outcome}
-use Rattle.meaning.specs.Call.{Lent, inputOf}
+use Rattle.meaning.specs.Call.{Lent}
 use Rattle.walking.specs.declared.Engine.{Engine}
 use Rattle.thinning.specs.Told.{optionsOf, fiveOf, byReason}
 use Rattle.orders.specs.declared.Order.{Order}
 use Rattle.orders.specs.Parts.{cellsOf}
 use Rattle.orders.specs.Orders.{orderAt}
-use Rattle.serving.specs.Desks.{Sources, Desk, buffersOf, fiveAt, threeAt, lentTo}
+use Rattle.serving.specs.Desks.{Sources, Desk, buffersOf, fiveAt, threeAt, lentTo, inputAlone}
 use Rattle.orders.specs.Refused.{refused}
 use Rattle.hjoltravan.specs.Calls.{Called}
 use Rattle.hjoltravan.specs.Orders.{inputAt, Served, CalledForOrders}
@@ -66,12 +66,6 @@ not-41 orders s {before} call other =
     (λ fine. call .served fine .1)
 
 -- ---- as alone
-
--- the input of a call alone that has the order's parts of the inputs, and buffers of any lengths
-abbrev pub inputAlone : Sources → Order → Lent → Input
-inputAlone s o b =
-    inputOf (cellsOf (o .points) (s .points)) (cellsOf (o .faces) (s .faces)) (cellsOf (o .margin) (s .margins))
-    (optionsOf (o .unit) (o .ratio) (o .preserve) (o .limited) (o .limit)) b
 
 -- whether an output or a work buffer is too short for a mesh (answer 3)
 abbrev pub tooShort : (i : Input) → Rooms → Bool

@@ -164,7 +164,7 @@ module _ (s : Sources) (orders : List Order) (before : Desk) (fine : refused ord
 
     -- the work memory, where the single call has left it
     abbrev alone : Answered (inputFor s (d .buffers) o) (lentTo o (d .buffers)) (done .left) (done .answer)
-    alone = done .thinned .thinned .answered
+    alone = done .alone .thinned .thinned .answered
 
     work-after : {A : Type 0} (nil : A) (stated : Input → ℕ) (old : List A) {now left : List A} → now ≡ leftAs true (longest stated input k) nil old →
         left ≡ leftAs (outcome (inputFor s (d .buffers) o) .worked) (stated (inputFor s (d .buffers) o)) nil now → left ≡ leftAs true (longest stated input (suc k)) nil old
@@ -189,7 +189,7 @@ module _ (s : Sources) (orders : List Order) (before : Desk) (fine : refused ord
         Called Heap (same-input t) (same-lent t)
         (lent (sym (points-written .own) t) (sym (faces-written .own) t) (u32s-after t) (f32s-after t) (f64s-after t))
         (sym (answer-written .own) t) (sym (closed-written .own) t))
-        (called {made = input k .options} (λ (_ : Options). inputFor s (d .buffers) o) refl (done .thinned) (refl, refl))
+        (called {made = input k .options} (λ (_ : Options). inputFor s (d .buffers) o) refl (done .alone .thinned) (refl, refl))
 
     one-more-done : SoFar (suc k) d'
     one-more-done =

@@ -11,7 +11,7 @@ use Rattle.thinning.specs.Told.{fiveOf, byReason}
 use Rattle.orders.specs.declared.Order.{Order}
 use Rattle.orders.specs.Parts.{Within, replaced}
 use Rattle.orders.specs.Orders.{orderAt}
-use Rattle.serving.specs.Desks.{Sources, Desk, fiveAt, threeAt, lentTo, inputFor}
+use Rattle.serving.specs.Desks.{Sources, Desk, fiveAt, threeAt, lentTo, inputAlone}
 
 -- every part of an order lies in its buffer, and there is room for its answer at a place
 pub record Fits (s : Sources) (o : Order) (place : ℕ) (d : Desk) : Type 0 where
@@ -31,14 +31,18 @@ pub record AsLong (a b : Lent) : Type 0 where
   pub f32s : length (a .f32s) ≡ length (b .f32s)
   pub f64s : length (a .f64s) ≡ length (b .f64s)
 
--- The call alone was made on the order's parts, with the heap walk, and what it left stands in their place; its answer stands at the order's place; all
--- else of the outputs and the lists is as it came.
+-- the call alone was made, with the heap walk, on the order's parts of the inputs and over some buffers
+pub record ThinnedInto (s : Sources) (o : Order) (b left : Lent) (r : Answer) : Type 0 where
+  pub folds : List ℕ
+  pub folds' : List ℕ
+  pub thinned : ThinnedBy Heap (inputAlone s o b) b left folds folds' r
+
+-- The call alone was made over the order's parts of the outputs, and what it left stands in their place; its answer stands at the order's place; all else of
+-- the outputs and the lists is as it came.
 pub record OrderDone (s : Sources) (o : Order) (place : ℕ) (d d' : Desk) : Type 0 where
   pub answer : Answer
   pub left : Lent
-  pub folds : List ℕ
-  pub folds' : List ℕ
-  pub thinned : ThinnedBy Heap (inputFor s (d .buffers) o) (lentTo o (d .buffers)) left folds folds' answer
+  pub alone : ThinnedInto s o (lentTo o (d .buffers)) left answer
   pub as-long : AsLong left (lentTo o (d .buffers))
   pub points-out : d' .buffers .points ≡ replaced (o .«out_points») (left .points) (d .buffers .points)
   pub faces-out : d' .buffers .faces ≡ replaced (o .«out_faces») (left .faces) (d .buffers .faces)

@@ -58,9 +58,12 @@ threeAt place = part (3 * place) 3
 abbrev pub lentTo : Order → Lent → Lent
 lentTo o b = lent (cellsOf (o .«out_points») (b .points)) (cellsOf (o .«out_faces») (b .faces)) (b .u32s) (b .f32s) (b .f64s)
 
--- the input of a call alone
-abbrev pub inputFor : Sources → Lent → Order → Input
-inputFor s b o =
+-- the input of a call alone that has the order's parts of the inputs, and buffers of any lengths
+abbrev pub inputAlone : Sources → Order → Lent → Input
+inputAlone s o b =
     inputOf (cellsOf (o .points) (s .points)) (cellsOf (o .faces) (s .faces)) (cellsOf (o .margin) (s .margins))
-    (optionsOf (o .unit) (o .ratio) (o .preserve) (o .limited) (o .limit))
-    (lentTo o b)
+    (optionsOf (o .unit) (o .ratio) (o .preserve) (o .limited) (o .limit)) b
+
+-- and with its parts of the outputs
+abbrev pub inputFor : Sources → Lent → Order → Input
+inputFor s b o = inputAlone s o (lentTo o b)

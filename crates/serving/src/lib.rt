@@ -5,7 +5,7 @@ ghost use Rattle.meaning.specs.Call.{lent};
 ghost use Rattle.thinning.specs.Told.{fiveOf, byReason};
 ghost use Rattle.orders.specs.Parts.{Within, replaced};
 ghost use Rattle.serving.specs.Desks.{sources, desk, fiveAt, threeAt};
-ghost use Rattle.serving.specs.Contracts.{Fits, OrderDone};
+ghost use Rattle.serving.specs.Contracts.{Fits, ThinnedInto, OrderDone};
 use meaning::Answer;
 use orders::Order;
 use walk::Closings;
@@ -45,6 +45,50 @@ fn tell_at(answers: &mut [u32], closed: &mut [u64], place: usize, r: Answer)
     tell_three(&mut closed[three..three + 3], r);
 }
 
+// Thins one order on its parts of the inputs, over its own parts of the outputs.
+fn thin_into(
+    order: Order,
+    points: &[f32],
+    faces: &[u32],
+    margins: &[u32],
+    out_points: &mut [f32],
+    out_faces: &mut [u32],
+    work_u32: &mut [u32],
+    work_f32: &mut [f32],
+    work_f64: &mut [f64],
+) -> Answer
+    requires { ⌜ Within (order .points) (now points) ⌝ ∗ ⌜ Within (order .faces) (now faces) ⌝ ∗ ⌜ Within (order .margin) (now margins) ⌝ }
+    ensures { λ r. ⌜ ThinnedInto (sources (now (points .entry)) (now (faces .entry)) (now (margins .entry))) order (lent (now («out_points» .entry)) (now («out_faces» .entry)) (now («work_u32» .entry)) (now («work_f32» .entry)) (now («work_f64» .entry))) (lent (now («out_points» .exit)) (now («out_faces» .exit)) (now («work_u32» .exit)) (now («work_f32» .exit)) (now («work_f64» .exit))) r ⌝ }
+{
+    let points_in = order.points;
+    let faces_in = order.faces;
+    let margin_in = order.margin;
+    let a = points_in.from;
+    let b = faces_in.from;
+    let c = margin_in.from;
+    let options = thinning::options_of(
+        order.unit,
+        order.ratio,
+        order.preserve,
+        order.limited,
+        order.limit,
+    );
+    let mut folds = [0u32; 1];
+    thinning::thin(
+        Engine::Heap,
+        &points[a..a + points_in.len],
+        &faces[b..b + faces_in.len],
+        &margins[c..c + margin_in.len],
+        options,
+        out_points,
+        out_faces,
+        work_u32,
+        work_f32,
+        work_f64,
+        &mut folds,
+    )
+}
+
 // Thins one order on its parts, and tells its answer at its place.
 pub fn thin_order(
     order: Order,
@@ -63,36 +107,20 @@ pub fn thin_order(
     requires { ⌜ Fits (sources (now points) (now faces) (now margins)) order place (desk (lent (now «out_points») (now «out_faces») (now «work_u32») (now «work_f32») (now «work_f64»)) (now answers) (now closed)) ⌝ }
     ensures { λ _. ⌜ OrderDone (sources (now (points .entry)) (now (faces .entry)) (now (margins .entry))) order place (desk (lent (now («out_points» .entry)) (now («out_faces» .entry)) (now («work_u32» .entry)) (now («work_f32» .entry)) (now («work_f64» .entry))) (now (answers .entry)) (now (closed .entry))) (desk (lent (now («out_points» .exit)) (now («out_faces» .exit)) (now («work_u32» .exit)) (now («work_f32» .exit)) (now («work_f64» .exit))) (now (answers .exit)) (now (closed .exit))) ⌝ }
 {
-    let points_in = order.points;
-    let faces_in = order.faces;
-    let margin_in = order.margin;
     let points_out = order.out_points;
     let faces_out = order.out_faces;
-    let a = points_in.from;
-    let b = faces_in.from;
-    let c = margin_in.from;
     let d = points_out.from;
     let e = faces_out.from;
-    let options = thinning::options_of(
-        order.unit,
-        order.ratio,
-        order.preserve,
-        order.limited,
-        order.limit,
-    );
-    let mut folds = [0u32; 1];
-    let r = thinning::thin(
-        Engine::Heap,
-        &points[a..a + points_in.len],
-        &faces[b..b + faces_in.len],
-        &margins[c..c + margin_in.len],
-        options,
+    let r = thin_into(
+        order,
+        points,
+        faces,
+        margins,
         &mut out_points[d..d + points_out.len],
         &mut out_faces[e..e + faces_out.len],
         work_u32,
         work_f32,
         work_f64,
-        &mut folds,
     );
     tell_at(answers, closed, place, r);
 }
