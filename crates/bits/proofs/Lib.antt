@@ -9,6 +9,7 @@ pub mod RootLaws
 pub mod RootValues
 pub mod RootOrder
 pub mod RootScaled
+pub mod TableLaws
 pub mod HalfEven
 pub mod Rounded
 pub mod SignedExponent

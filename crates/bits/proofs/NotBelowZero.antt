@@ -1,12 +1,18 @@
 -- Sums, products and quotients of floats that are not below zero are never a NaN, if what is divided, and one factor, is finite and above zero.
-use Prim.Native.Nat.{ℕ, zero, suc, _+_, _*_, _≤_, _<_, _^_}
+use Prim.Native.Nat.{ℕ, zero, suc, _+_, _-_, _*_, _/_, _%_, _^_, _≤_, _<_}
+use native.Mathlib.Nat.{mul-pos}
+use native.Mathlib.Omega.{arith}
+use mathlib.Core.Path.{_≡_}
 use mathlib.Core.Bool.{Bool, true, false, not, cond}
 use lib.IntN.{ℤ, pos}
 use lib.Dec.{T, ltb, eqb, eqb·suc-zero}
-use lib.Ieee.{Float, nan, inf, fin, Format, prec, emax, low, odd, units, round, sum, add, mul, div, ofInt, isNan}
+use lib.Ieee.{Float, nan, inf, fin, Format, binary64, prec, emax, low, odd, units, round, sum, add, mul, div, ofInt, ofFields, ofBits, isNan}
 use lib.Ieee.Back.{round-whole}
 use lib.Ieee.Fits.{round-is}
 use lib.Ieee.Positive.{positive, positive-of-value}
+use lib.Pow.{pow-pos}
+use borrow.Author.Tests.{lt-leb}
+use Rattle.bits.proofs.PatternOrder.{fields-finite}
 
 -- a number or an infinity whose sign is clear
 pub data NotBelow : Float → Type 0 where
@@ -66,6 +72,19 @@ div-not-below f (above {m}) (number {m = n}) = rw (eqb·suc-zero m) (either (eqb
 
 pub above-of-positive : (x : Float) → T (positive x) → Above x
 above-of-positive (fin false (suc m) e) h = above
+
+-- a normal pattern with the sign clear
+pub above-of-bits : (b : ℕ) → 2 ^ 52 ≤ b → b < 0x7ff0_0000_0000_0000 → Above (ofBits binary64 b)
+unfolding ofBits
+above-of-bits b low high =
+    let j = b / 2 ^ 52 - 1 in
+    let m = 2 ^ 52 + b % 2 ^ 52 in
+    let whole : b % 2 ^ 63 ≡ b = omega arith in
+    let field : b / 2 ^ 52 ≡ suc j = omega arith in
+    let some : 0 < m = omega arith in
+    let value = fields-finite binary64 false (suc j) (b % 2 ^ 52) (omega arith) in
+    above-of-positive _ (rw (lt-leb (2 ^ 63) b (omega arith), whole, field)
+    (positive-of-value (ofFields binary64 false (suc j) (b % 2 ^ 52)) (m * 2 ^ j) (2 ^ 1074) value (mul-pos some (pow-pos j))))
 
 pub above-of-whole : (f : Format) (n : ℕ) → 0 < n → n ≤ 2 ^ prec f → Above (ofInt f (pos n))
 unfolding ofInt

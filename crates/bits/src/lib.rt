@@ -6,6 +6,7 @@ pub mod narrow;
 pub mod order;
 pub mod patterns;
 pub mod root;
+mod table;
 
 // An f32 as an f64, which holds every one. A NaN gives a NaN.
 pub fn widen(x: f32) -> f64

@@ -1,46 +1,26 @@
 // The square root of an f32, on bit patterns and on floats: the nearest one, as specs/Root.antt states it over whole numbers.
-// The guess is float arithmetic of which nothing is proved; its check is arithmetic of whole numbers, and is the statement.
+// The guess starts from the table and is float arithmetic of which nothing is proved; its check is arithmetic of whole numbers, and is
+// the statement.
 use crate::patterns::bits_of_f32;
 use crate::patterns::f32_of;
+use crate::patterns::f64_of;
+use crate::table::entry;
 ghost use mathlib.Core.Path.{_≡_};
-ghost use Prim.Native.Nat.{ℕ, _+_, _*_, _^_, _≤_, _<_};
-ghost use lib.Dec.{T};
-ghost use lib.Ieee.Positive.{positive};
+ghost use Prim.Native.Nat.{ℕ, _+_, _*_, _%_, _^_, _≤_, _<_};
 ghost use Rattle.bits.specs.Root.{fourfold, NearestRoot, finiteRoot, rootBits, root as rooted};
 
-// A line, as its height at 0 and its slope.
-struct Line {
-    base: f64,
-    slope: f64,
-}
-
-// A line near the root: one from 2^46 up to 2^47, where the power of two is even, and one from there up to 2^48.
-fn line_near(odd: u32) -> Line
-    ensures { λ r. ⌜ T (positive (r .base)) × T (positive (r .slope)) ⌝ }
-{
-    if odd == 0 {
-        return Line {
-            base: 4950638.2,
-            slope: 4.9747e-8,
-        };
-    }
-    Line {
-        base: 7001259.7,
-        slope: 3.5177e-8,
-    }
-}
-
-// A guess at the root of n: a line, then two of Heron's steps. Adding 2^40 and a half puts the whole part, rounded, at a
-// fixed place in the digits.
-fn first_guess(n: u64, odd: u32) -> u64
-    requires { ⌜ (0 < n) × (n ≤ 0xffff_ff00_0000) ⌝ }
+// A guess at the root of n: the table's entry x for the first ten digits of n, then one step of third order, Halley's, which is
+// x (x * x + 3 n) / (3 x * x + n), written so that nothing is taken away and divided once. The entry becomes the first digits of a
+// float, and 0.7 those after it: about the middle of what it stands for. Adding 2^40 and a half puts the whole part, rounded, at a
+// fixed place in the digits of the sum.
+fn first_guess(n: u64) -> u64
+    requires { ⌜ (0x4000_0000_0000 ≤ n) × (n ≤ 0xffff_ff00_0000) ⌝ }
     ensures { λ r. ⌜ r < 0x200_0000 ⌝ }
 {
-    let x = n as f64;
-    let line = line_near(odd);
-    let near = line.base + x * line.slope;
-    let twice = near + x / near;
-    let sum = twice * 0.25 + 1099511627776.5 + x / twice;
+    let number = n as f64;
+    let x = f64_of(entry(n / 0x40_0000_0000) * 0x1000_0000_0000 + 0x4150_0b33_3333_3333);
+    let divisor = x * x * 1.125 + number * 0.375;
+    let sum = x / divisor * number + (x * 0.3333333333333333 + 1099511627776.5);
     f64::to_bits(sum) / 0x1000 % 0x200_0000
 }
 
@@ -60,11 +40,11 @@ fn corrected(n: u64, guess: u64) -> u64
 }
 
 // The whole number nearest to n's root. The guess is nearly always right, so it is tried first.
-fn whole_root(n: u64, odd: u32) -> u64
-    requires { ⌜ (0 < n) × (n ≤ 0xffff_ff00_0000) ⌝ }
+fn whole_root(n: u64) -> u64
+    requires { ⌜ (0x4000_0000_0000 ≤ n) × (n ≤ 0xffff_ff00_0000) ⌝ }
     ensures { λ r. ⌜ (r * r < n + r) × (n ≤ r * r + r) ⌝ }
 {
-    let r = first_guess(n, odd);
+    let r = first_guess(n);
     let square = r * r;
     if square < n + r && n <= square + r {
         return r;
@@ -72,15 +52,15 @@ fn whole_root(n: u64, odd: u32) -> u64
     corrected(n, r)
 }
 
-// The pattern nearest to the root of significand * 2^(power - 275), the significand with its leading digit. An odd power
-// goes to the significand; half of an even one is the root's field.
-fn scaled_root(significand: u32, power: u32) -> u32
-    requires { ⌜ (0x80_0000 ≤ significand) × (significand < 0x100_0000) × (power < 0x180) ⌝ }
-    ensures { λ r. ⌜ ((b : ℕ) → fourfold b ≡ significand * 2 ^ (power + 25) → NearestRoot b r) ⌝ }
+// The pattern nearest to the root of s * 2^(power - 275), where s is the last 23 digits with a leading digit before them. An odd power
+// goes to s; half of an even one is the root's field.
+fn scaled_root(digits: u32, power: u32) -> u32
+    requires { ⌜ power < 0x180 ⌝ }
+    ensures { λ r. ⌜ ((b : ℕ) → fourfold b ≡ (0x80_0000 + digits % 0x80_0000) * 2 ^ (power + 25) → NearestRoot b r) ⌝ }
 {
-    let odd = power % 2;
-    let n = ((significand as u64) * 0x80_0000) << odd;
-    power / 2 * 0x80_0000 + whole_root(n, odd) as u32
+    let significand = 0x80_0000 + digits % 0x80_0000;
+    let n = ((significand as u64) * 0x80_0000) << (power % 2);
+    power / 2 * 0x80_0000 + whole_root(n) as u32
 }
 
 // How far the digits of a subnormal pattern are shifted up to have a leading digit.
@@ -111,7 +91,7 @@ pub fn root_bits(b: u32) -> u32
         return low_root(b);
     }
     if b < 0x7f80_0000 {
-        return scaled_root(0x80_0000 + b % 0x80_0000, b / 0x80_0000 + 125);
+        return scaled_root(b, b / 0x80_0000 + 125);
     }
     if b == 0x7f80_0000 {
         return 0x7f80_0000;

@@ -1,6 +1,6 @@
 -- `bits::root::low_root` meets its contract: the shifted digits and the power of two are the pattern's number. Assumes nothing.
 use mathlib.Core.Path.{_≡_, sym, ap, _∙_}
-use Prim.Native.Nat.{_*_, _%_, _^_}
+use Prim.Native.Nat.{_+_, _*_, _%_, _^_}
 use native.Mathlib.Nat.{mod-eq-of-lt}
 use native.Mathlib.Omega.{arith}
 use Rattle.bits.specs.Root.{finiteRoot}
@@ -18,7 +18,8 @@ returns-2 c =
     let b = c .before .before .before .args .b in
     let k = c .before .shift-of .result in
     let whole : b * 2 ^ k % 2 ^ 32 ≡ b * 2 ^ k = mod-eq-of-lt (omega arith) in
-    nearest-is-root b _ (omega arith) (c .scaled-root .ensures b (rw whole (subnormal-number b k (omega arith) (omega arith))))
+    let digits : 0x80_0000 + b * 2 ^ k % 0x80_0000 ≡ b * 2 ^ k = omega arith in
+    nearest-is-root b _ (omega arith) (c .scaled-root .ensures b (rw (whole, digits) (subnormal-number b k (omega arith) (omega arith))))
 
 pub low-root-spec : {M : Type 1} → statement M
 low-root-spec =

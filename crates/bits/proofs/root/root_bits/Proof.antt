@@ -35,7 +35,6 @@ root-bits-spec =
     (λ c κs. search needs)
     returns
     (λ c. search needs)
-    (λ c. search needs)
     (λ c κs. search needs)
     returns-2
     returns-3
