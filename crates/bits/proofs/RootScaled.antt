@@ -8,6 +8,7 @@ use mathlib.Core.Logic.{inl, inr}
 use lib.Count.{leadingZeros, leading-top}
 use lib.Pow.{pow-pos, pow-add, pow-mono, shl-lt}
 use Rattle.bits.specs.Root.{steps, halfway, fourfold, NearestRoot}
+use Rattle.bits.specs.Contracts.{Raised}
 use Rattle.bits.proofs.RootSteps.{lt-or-le, significand, place, steps-rise, steps-normal, steps-low, steps-high}
 use Rattle.bits.proofs.RootTies.{fourfold-is}
 
@@ -115,10 +116,11 @@ nearest-of-shifted m d n r s above below b e =
 
 -- ---- the number of a pattern, as a significand and a power of two
 
-pub normal-number : (b : ℕ) → 0x80_0000 ≤ b → fourfold b ≡ significand b * 2 ^ (b / 0x80_0000 + 125 + 25)
-normal-number b h =
-    let sum : place b + 151 ≡ b / 0x80_0000 + 125 + 25 = omega arith in
-    fourfold-is b (significand b) (place b) (steps-high b h) ∙ ap (λ (x : ℕ). significand b * 2 ^ x) sum
+pub raised-normal : (b : ℕ) → 0x80_0000 ≤ b → Raised b (b + 0x3e80_0000)
+raised-normal b h =
+    let sum : place b + 151 ≡ (b + 0x3e80_0000) / 0x80_0000 + 25 = omega arith in
+    let same : significand b ≡ significand (b + 0x3e80_0000) = omega arith in
+    fourfold-is b (significand b) (place b) (steps-high b h) ∙ ap (λ (x : ℕ). significand b * 2 ^ x) sum ∙ ap (λ (s : ℕ). s * 2 ^ ((b + 0x3e80_0000) / 0x80_0000 + 25)) same
 
 -- the digits of a subnormal pattern, shifted up by k
 pub subnormal-number : (b k : ℕ) → b < 0x80_0000 → k ≤ 23 → fourfold b ≡ b * 2 ^ k * 2 ^ (126 - k + 25)

@@ -1,9 +1,11 @@
--- What only the contracts of inner steps name: the exponent of an f64's pattern, by which the code of `narrow` goes, and the rows of the root's table.
+-- What only the contracts of inner steps name: the exponent of an f64's pattern, by which the code of `narrow` goes; the rows of the root's table; and a
+-- pattern whose root is taken, raised.
 use Prim.Native.Nat.{ℕ, zero, suc, _+_, _*_, _/_, _%_, _^_}
 use mathlib.Core.Path.{_≡_}
 use mathlib.Core.Bool.{cond}
 use lib.Dec.{leb, ltb}
 use lib.IntN.{ℤ, pos, _-ℤ_}
+use Rattle.bits.specs.Root.{fourfold}
 
 -- ---- narrowing
 
@@ -30,3 +32,9 @@ wrongIn (suc m) k row = wrong k (256 + row % 256) + wrongIn m (k + 1) (row / 256
 abbrev pub PastAll : ℕ → ℕ → Type 0
 PastAll zero i = Unit
 PastAll (suc m) i = PastAll m i × (i ≡ m → ⊥)
+
+-- ---- the root
+
+-- x is the finite pattern b with its field raised by 125. So raised, every field has a leading digit, also a subnormal pattern's.
+abbrev pub Raised : ℕ → ℕ → Type 0
+Raised b x = fourfold b ≡ (0x80_0000 + x % 0x80_0000) * 2 ^ (x / 0x80_0000 + 25)

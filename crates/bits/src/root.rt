@@ -6,8 +6,9 @@ use crate::patterns::f32_of;
 use crate::patterns::f64_of;
 use crate::table::entry;
 ghost use mathlib.Core.Path.{_≡_};
-ghost use Prim.Native.Nat.{ℕ, _+_, _*_, _%_, _^_, _≤_, _<_};
-ghost use Rattle.bits.specs.Root.{fourfold, NearestRoot, finiteRoot, rootBits, root as rooted};
+ghost use Prim.Native.Nat.{ℕ, _+_, _*_, _^_, _≤_, _<_};
+ghost use Rattle.bits.specs.Root.{NearestRoot, finiteRoot, rootBits, root as rooted};
+ghost use Rattle.bits.specs.Contracts.{Raised};
 
 // A guess at the root of n: the table's entry x for the first ten digits of n, then one step of third order, Halley's, which is
 // x (x * x + 3 n) / (3 x * x + n), written so that nothing is taken away and divided once. The entry becomes the first digits of a
@@ -52,15 +53,14 @@ fn whole_root(n: u64) -> u64
     corrected(n, r)
 }
 
-// The pattern nearest to the root of s * 2^(power - 275), where s is the last 23 digits with a leading digit before them. An odd power
-// goes to s; half of an even one is the root's field.
-fn scaled_root(digits: u32, power: u32) -> u32
-    requires { ⌜ power < 0x180 ⌝ }
-    ensures { λ r. ⌜ ((b : ℕ) → fourfold b ≡ (0x80_0000 + digits % 0x80_0000) * 2 ^ (power + 25) → NearestRoot b r) ⌝ }
+// The pattern nearest to the root of a raised pattern's number. An odd field goes to the significand; half of an even one is the root's.
+fn raised_root(x: u32) -> u32
+    requires { ⌜ x < 0xc000_0000 ⌝ }
+    ensures { λ r. ⌜ ((b : ℕ) → Raised b x → NearestRoot b r) ⌝ }
 {
-    let significand = 0x80_0000 + digits % 0x80_0000;
-    let n = ((significand as u64) * 0x80_0000) << (power % 2);
-    power / 2 * 0x80_0000 + whole_root(n) as u32
+    let significand = 0x80_0000 + x % 0x80_0000;
+    let n = ((significand as u64) * 0x80_0000) << (x / 0x80_0000 % 2);
+    x / 0x100_0000 * 0x80_0000 + whole_root(n) as u32
 }
 
 // How far the digits of a subnormal pattern are shifted up to have a leading digit.
@@ -71,27 +71,36 @@ fn shift_of(b: u32) -> u32
     u32::leading_zeros(b) - 8
 }
 
-// The root of +0 or of a subnormal pattern.
-fn low_root(b: u32) -> u32
-    requires { ⌜ b < 0x80_0000 ⌝ }
+// A subnormal pattern, raised: its digits shifted up to their leading digit, and its field down by as much.
+fn raised_low(b: u32) -> u32
+    requires { ⌜ (0 < b) × (b < 0x80_0000) ⌝ }
+    ensures { λ r. ⌜ (r < 0xc000_0000) × Raised b r ⌝ }
+{
+    let shift = shift_of(b);
+    (125 - shift) * 0x80_0000 + (b << shift)
+}
+
+// The root of a finite pattern at or above +0.
+fn finite_root(b: u32) -> u32
+    requires { ⌜ b < 0x7f80_0000 ⌝ }
     ensures { λ r. ⌜ r ≡ finiteRoot b ⌝ }
 {
-    if b == 0 {
-        return 0;
+    let mut x = b + 0x3e80_0000;
+    if b < 0x80_0000 {
+        if b == 0 {
+            return 0;
+        }
+        x = raised_low(b);
     }
-    let shift = shift_of(b);
-    scaled_root(b << shift, 126 - shift)
+    raised_root(x)
 }
 
 // The root of any pattern: the nearest pattern, and 7fc00000 for what is below zero or no number.
 pub fn root_bits(b: u32) -> u32
     ensures { λ r. ⌜ r ≡ rootBits b ⌝ }
 {
-    if b < 0x80_0000 {
-        return low_root(b);
-    }
     if b < 0x7f80_0000 {
-        return scaled_root(b, b / 0x80_0000 + 125);
+        return finite_root(b);
     }
     if b == 0x7f80_0000 {
         return 0x7f80_0000;
