@@ -2,7 +2,8 @@
    functions of one the name before_.., and those of the other after_..
 
        builds root                 nanoseconds of a root: of many that don't wait for each other, and of each after the last
-       builds thin FILE RATIO N    milliseconds of a call on the mesh of a file: the least of N, and a quarter of the calls took less than the second
+       builds thin FILE RATIO N    milliseconds of a call on the mesh of a file: the least of N and the middle one, and last the middle one of
+                                   the N differences between a call of the one and the next of the other
        builds before|after root    2^20 roots of the one build, for counting its instructions
        builds before|after FILE RATIO   one call, likewise
 
@@ -96,7 +97,7 @@ static uint32_t sum_of(const struct lent *l) {
 static int by_size(const void *a, const void *b) { return (*(const double *)a > *(const double *)b) - (*(const double *)a < *(const double *)b); }
 
 static void time_thins(const char *name, float ratio, int calls) {
-    static double times[2][MOST_CALLS];
+    static double times[3][MOST_CALLS];
     struct mesh mesh = read_mesh(name);
     struct lent lent = lend(&mesh);
     uint32_t sums[2];
@@ -111,10 +112,10 @@ static void time_thins(const char *name, float ratio, int calls) {
             sums[side] = sum_of(&lent);
         }
     if (sums[0] != sums[1]) fail("other bits");
-    for (int side = 0; side < 2; side++) {
-        qsort(times[side], calls, sizeof times[side][0], by_size);
-        printf("%s %.3f %.3f\n", names[side], times[side][0], times[side][calls / 4]);
-    }
+    for (int call = 0; call < calls; call++) times[2][call] = times[1][call] - times[0][call];
+    for (int row = 0; row < 3; row++) qsort(times[row], calls, sizeof times[row][0], by_size);
+    for (int side = 0; side < 2; side++) printf("%s %.3f %.3f\n", names[side], times[side][0], times[side][calls / 2]);
+    printf("difference %.3f\n", times[2][calls / 2]);
 }
 
 int main(int words, char **word) {

@@ -10,6 +10,7 @@ pub mod RootValues
 pub mod RootOrder
 pub mod RootScaled
 pub mod TableLaws
+pub mod GuessLaws
 pub mod HalfEven
 pub mod Rounded
 pub mod SignedExponent

@@ -133,7 +133,7 @@ lt-stands c most (fin u m e) (fin v n d) s t a b C M p q =
 -- ---- what a pattern stands for
 
 -- a field below the highest one
-pub fields-finite : (f : Format) (s : Bool) (x t : ℕ) → x < ones f → HasValue (ofFields f s x t) s (fieldSteps f x t) (2 ^ low f)
+fields-finite : (f : Format) (s : Bool) (x t : ℕ) → x < ones f → HasValue (ofFields f s x t) s (fieldSteps f x t) (2 ^ low f)
 unfolding ofFields
 fields-finite f s zero t h = rw mul-one at (odd-sign (prec f) s t 0 (low f))
 fields-finite f s (suc x) t h = rw (ne-eqb (suc x) (ones f) (λ e. omega arith)) (odd-sign (prec f) s (hid f + t) x (low f))

@@ -92,10 +92,10 @@ pub record Shifted (m d n : ℕ) : Type 0 where
   pub small : n ≤ 0xff_ffff * 0x100_0000
 
 -- the shift loses nothing, and the number is within its bounds
-pub shifted : (m d : ℕ) → 0x80_0000 ≤ m → m < 0x100_0000 → Shifted m d (m * 0x80_0000 * 2 ^ (d % 2) % 2 ^ 64)
+pub shifted : (m d : ℕ) → 0x80_0000 ≤ m → m < 0x100_0000 → Shifted m d (m * 2 ^ (d % 2) % 2 ^ 32 * 0x80_0000)
 shifted m d low high = go (d % 2) refl
   where
-    go : (k : ℕ) → d % 2 ≡ k → Shifted m d (m * 0x80_0000 * 2 ^ k % 2 ^ 64)
+    go : (k : ℕ) → d % 2 ≡ k → Shifted m d (m * 2 ^ k % 2 ^ 32 * 0x80_0000)
     go zero e = record { is = rw e (omega arith); big = omega arith; small = omega arith }
     go (suc zero) e = record { is = rw e (omega arith); big = omega arith; small = omega arith }
     go (suc (suc k)) e = absurd (omega arith)

@@ -35,6 +35,7 @@ PastAll (suc m) i = PastAll m i × (i ≡ m → ⊥)
 
 -- ---- the root
 
--- x is the finite pattern b with its field raised by 125. So raised, every field has a leading digit, also a subnormal pattern's.
+-- x is the finite pattern b, its field raised by 125 and, where b is subnormal, its digits shifted up to the first and the field lowered by as much: the same
+-- number, and always with a leading digit
 abbrev pub Raised : ℕ → ℕ → Type 0
 Raised b x = fourfold b ≡ (0x80_0000 + x % 0x80_0000) * 2 ^ (x / 0x80_0000 + 25)

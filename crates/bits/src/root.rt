@@ -1,33 +1,29 @@
 // The square root of an f32, on bit patterns and on floats: the nearest one, as specs/Root.antt states it over whole numbers.
-// The guess starts from the table and is float arithmetic of which nothing is proved; its check is arithmetic of whole numbers, and is
-// the statement.
+// All is arithmetic of whole numbers. Nothing is proved of how near the guess is; its check is the statement.
 use crate::patterns::bits_of_f32;
 use crate::patterns::f32_of;
-use crate::patterns::f64_of;
 use crate::table::entry;
 ghost use mathlib.Core.Path.{_≡_};
 ghost use Prim.Native.Nat.{ℕ, _+_, _*_, _^_, _≤_, _<_};
 ghost use Rattle.bits.specs.Root.{NearestRoot, finiteRoot, rootBits, root as rooted};
 ghost use Rattle.bits.specs.Contracts.{Raised};
 
-// A guess at the root of n: the table's entry x for the first ten digits of n, then one step of third order, Halley's, which is
-// x (x * x + 3 n) / (3 x * x + n), written so that nothing is taken away and divided once. The entry becomes the first digits of a
-// float, and 0.7 those after it: about the middle of what it stands for. Adding 2^40 and a half puts the whole part, rounded, at a
-// fixed place in the digits of the sum.
-fn first_guess(n: u64) -> u64
-    requires { ⌜ (0x4000_0000_0000 ≤ n) × (n ≤ 0xffff_ff00_0000) ⌝ }
-    ensures { λ r. ⌜ r < 0x200_0000 ⌝ }
+// A guess at the root of m * 2^23. The table's entry for the first ten digits of m, four times and three more, is x: about the middle of
+// what the entry stands for, in units of 2^13. Then comes one step of third order, Halley's, x (x * x + 3 m) / (3 x * x + m), with the
+// square in m's units, and rounded.
+fn first_guess(m: u64) -> u64
+    requires { ⌜ (0x80_0000 ≤ m) × (m ≤ 0x1ff_fffe) ⌝ }
+    ensures { λ r. ⌜ r < 0x400_0000 ⌝ }
 {
-    let number = n as f64;
-    let x = f64_of(entry(n / 0x40_0000_0000) * 0x1000_0000_0000 + 0x4150_0b33_3333_3333);
-    let divisor = x * x * 1.125 + number * 0.375;
-    let sum = x / divisor * number + (x * 0.3333333333333333 + 1099511627776.5);
-    f64::to_bits(sum) / 0x1000 % 0x200_0000
+    let x = 4 * entry(m / 0x8000) + 3;
+    let square = 8 * x * x;
+    let divisor = 3 * square + m;
+    (x * (square + 3 * m) * 0x2000 + divisor / 2) / divisor
 }
 
 // The whole number nearest to n's root, from any guess: down while it is above, then up while it is below.
 fn corrected(n: u64, guess: u64) -> u64
-    requires { ⌜ (0 < n) × (n ≤ 0xffff_ff00_0000) × (guess < 0x200_0000) ⌝ }
+    requires { ⌜ (0 < n) × (n ≤ 0xffff_ff00_0000) × (guess < 0x400_0000) ⌝ }
     ensures { λ r. ⌜ (r * r < n + r) × (n ≤ r * r + r) ⌝ }
 {
     let mut r = guess;
@@ -40,12 +36,13 @@ fn corrected(n: u64, guess: u64) -> u64
     r
 }
 
-// The whole number nearest to n's root. The guess is nearly always right, so it is tried first.
-fn whole_root(n: u64) -> u64
-    requires { ⌜ (0x4000_0000_0000 ≤ n) × (n ≤ 0xffff_ff00_0000) ⌝ }
-    ensures { λ r. ⌜ (r * r < n + r) × (n ≤ r * r + r) ⌝ }
+// The whole number nearest to the root of m * 2^23. The guess is nearly always right, so it is tried first.
+fn whole_root(m: u64) -> u64
+    requires { ⌜ (0x80_0000 ≤ m) × (m ≤ 0x1ff_fffe) ⌝ }
+    ensures { λ r. ⌜ (r * r < m * 0x80_0000 + r) × (m * 0x80_0000 ≤ r * r + r) ⌝ }
 {
-    let r = first_guess(n);
+    let n = m * 0x80_0000;
+    let r = first_guess(m);
     let square = r * r;
     if square < n + r && n <= square + r {
         return r;
@@ -59,8 +56,8 @@ fn raised_root(x: u32) -> u32
     ensures { λ r. ⌜ ((b : ℕ) → Raised b x → NearestRoot b r) ⌝ }
 {
     let significand = 0x80_0000 + x % 0x80_0000;
-    let n = ((significand as u64) * 0x80_0000) << (x / 0x80_0000 % 2);
-    x / 0x100_0000 * 0x80_0000 + whole_root(n) as u32
+    let m = significand << (x / 0x80_0000 % 2);
+    x / 0x100_0000 * 0x80_0000 + whole_root(m as u64) as u32
 }
 
 // How far the digits of a subnormal pattern are shifted up to have a leading digit.

@@ -8,7 +8,7 @@ use Rattle.bits.proofs.root.corrected.Statement.{statement}
 use Rattle.bits.proofs.root.corrected.Tie as tie
 
 abbrev Inv-loop : tie.InvT-loop
-Inv-loop n guess r₀ r = r ≤ 0x1ff_ffff
+Inv-loop n guess r₀ r = r ≤ 0x3ff_ffff
 
 abbrev μ-loop : tie.MeasureT-loop
 μ-loop n guess r₀ r = r
