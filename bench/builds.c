@@ -100,7 +100,7 @@ static void time_thins(const char *name, float ratio, int calls) {
     static double times[3][MOST_CALLS];
     struct mesh mesh = read_mesh(name);
     struct lent lent = lend(&mesh);
-    uint32_t sums[2];
+    uint32_t sums[2] = {0};
     if (calls < 1 || calls > MOST_CALLS) fail("from 1 to 1,000 calls");
     for (int call = 0; call < calls; call++)
         for (int turn = 0; turn < 2; turn++) {
