@@ -77,7 +77,7 @@ fn raised_low(b: u32) -> u32
     (125 - shift) * 0x80_0000 + (b << shift)
 }
 
-// The root of a finite pattern at or above +0.
+// The root of a finite pattern at or above +0. A normal one is raised by adding 125 to its field.
 fn finite_root(b: u32) -> u32
     requires { ⌜ b < 0x7f80_0000 ⌝ }
     ensures { λ r. ⌜ r ≡ finiteRoot b ⌝ }
