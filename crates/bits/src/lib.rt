@@ -1,4 +1,6 @@
 // Float operations on bit patterns and on floats, each equal to its definition in specs/.
+#![tactic(auto)]
+
 ghost use Rattle.std.specs.Prelude.{◌≡◌};
 
 pub mod cut;

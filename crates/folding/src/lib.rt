@@ -1,4 +1,6 @@
 // The fold in lent memory (document 01, "A fold moves keep"): tried by the fold test, and made where that allows it.
+#![tactic(auto)]
+
 ghost use Rattle.std.specs.Prelude.{◌≡◌, ◌≢◌, ◌+◌, ◌*◌, ◌≤◌, ◌<◌, length, Float};
 ghost use Rattle.placement.specs.declared.Limit.{Limit as LimitS};
 ghost use Rattle.placement.specs.Pairs.{pair_place};
@@ -18,7 +20,7 @@ use steps::{kill, relist};
 use walk::{Reason, Tested};
 
 // What trying a fold came to: it was made, and so many faces went, or it isn't allowed, and why.
-#[derive(Drop)]
+#[derive(Clone, Copy)]
 pub enum Tried {
     Folded(usize),
     Refused(Reason),

@@ -1,5 +1,7 @@
 // The fold test: whether a pair may be folded without tearing the surface, and without squashing a face or turning one over; and if not, why.
 // Its work hangs on the faces around the two points, which the caller lists.
+#![tactic(auto)]
+
 mod fair;
 
 ghost use Rattle.std.specs.Prelude.{◌≡◌, true, cond, ◌&&◌, ◌*◌, ◌≤◌, ◌<◌, ltb, length};

@@ -1,4 +1,6 @@
 // Points, planes and quadrics by value. Each operation rounds once, in the order that its definition in specs/ writes.
+#![tactic(auto)]
+
 ghost use Rattle.std.specs.Prelude.{◌≡◌};
 ghost use Rattle.std.specs.Float.Ieee.Scale.{finite};
 ghost use Rattle.geometry.specs.Points.{difference, cross, dot, over, norm, middle, normal, all_finite};
@@ -6,7 +8,7 @@ ghost use Rattle.geometry.specs.Planes.{plane_of, unit_normal};
 ghost use Rattle.geometry.specs.Quadrics.{zero_quadric, of_plane, quadric_sum};
 
 // A point, or the way from one point to another.
-#[derive(Drop)]
+#[derive(Clone, Copy)]
 pub struct Point {
     pub x: f32,
     pub y: f32,
@@ -14,7 +16,7 @@ pub struct Point {
 }
 
 // A plane: where a*x + b*y + c*z + d is zero.
-#[derive(Drop)]
+#[derive(Clone, Copy)]
 pub struct Plane {
     pub a: f64,
     pub b: f64,
@@ -23,7 +25,7 @@ pub struct Plane {
 }
 
 // A quadric: a symmetric 4x4 matrix, of which the upper right half is kept.
-#[derive(Drop)]
+#[derive(Clone, Copy)]
 pub struct Quadric {
     pub m11: f64,
     pub m12: f64,

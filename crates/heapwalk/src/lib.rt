@@ -1,4 +1,6 @@
 // The heap walk: the same folds as the plain walk, in the same order, with the open pairs in a queue.
+#![tactic(auto)]
+
 ghost use Rattle.std.specs.Prelude.{◌≡◌, ◌-◌, ◌/◌, ◌≤◌, cond, length};
 ghost use Rattle.walk.specs.Pairs.{pair_of};
 ghost use Rattle.walk.specs.Walk.{tried};
@@ -21,7 +23,7 @@ use queue::Taken;
 use walk::Pair;
 
 // A step, and how many more entries there are for what it put in.
-#[derive(Drop)]
+#[derive(Clone, Copy)]
 pub struct Paced {
     pub stepped: Stepped,
     pub pushed: usize,

@@ -1,4 +1,6 @@
 // The C interface, thin: each function hands its arguments on. include/hjoltravan.h says what they are.
+#![tactic(auto)]
+
 ghost use Rattle.std.specs.Prelude.{◌≡◌};
 ghost use Rattle.bits.specs.Root.{root_bits};
 ghost use Rattle.bits.specs.Narrow.{narrow_bits};

@@ -1,4 +1,6 @@
 // The listing of an answer, byte for byte, into a buffer that the caller lends.
+#![tactic(auto)]
+
 ghost use Rattle.std.specs.Prelude.{◌≡◌, ◌+◌, ◌*◌, ◌/◌, ◌≤◌, ◌<◌, length};
 ghost use Rattle.text.specs.Lines.{lines_to};
 ghost use Rattle.lists.specs.Puts.{Put};
@@ -12,7 +14,7 @@ use text::{
 };
 
 // How many bytes were written; or the buffer is too short, or the mesh larger than document 01 allows, and nothing was.
-#[derive(Drop)]
+#[derive(Clone, Copy)]
 pub enum Printed {
     Bytes(usize),
     NoRoom,

@@ -10,7 +10,7 @@ use geometry::Point;
 use walk::Pair;
 
 // What is stored of a pair in the queue: the cost and the place that it had when the entry was made, and the stamps that its points had then.
-#[derive(Drop)]
+#[derive(Clone, Copy)]
 pub struct Entry {
     pub pair: Pair,
     pub cost: f64,

@@ -1,4 +1,6 @@
 // What stands where in the lent work memory: where each part begins, and its cells read and written by name.
+#![tactic(auto)]
+
 mod cells;
 mod entries;
 mod layout;

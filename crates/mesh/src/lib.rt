@@ -1,4 +1,6 @@
 // The mesh in lent memory: laid out from the lists that are handed over, with the faces at each point as chains of corners.
+#![tactic(auto)]
+
 mod laying;
 mod links;
 mod quadrics;

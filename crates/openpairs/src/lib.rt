@@ -1,4 +1,6 @@
 // The open pairs of the plain walk in lent memory: opened, closed, and the least of them found.
+#![tactic(auto)]
+
 mod opening;
 mod pairs;
 

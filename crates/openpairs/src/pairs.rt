@@ -12,14 +12,14 @@ use placement::pair::{pair_cost, pair_place};
 use placement::{Bounds, Fold};
 
 // The least open pair: its place in the list, and the pair with where it goes.
-#[derive(Drop)]
+#[derive(Clone, Copy)]
 pub struct Least {
     pub at: usize,
     pub fold: Fold,
 }
 
 // A pair, its place in the list, and its cost.
-#[derive(Drop)]
+#[derive(Clone, Copy)]
 pub struct Ranked {
     pub at: usize,
     pub cost: f64,

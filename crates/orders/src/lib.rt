@@ -1,4 +1,6 @@
 // The orders of a call with many: where an order's parts lie, and which calls are refused as a whole.
+#![tactic(auto)]
+
 ghost use Rattle.std.specs.Prelude.{◌≡◌, ◌+◌, ◌<◌, ltb, length};
 ghost use Rattle.orders.specs.Refused as Refused;
 ghost use Rattle.orders.specs.Clauses.{looked_at};
@@ -8,7 +10,7 @@ pub const MOST_ORDERS: usize = 64;
 
 // Where some cells lie in a buffer: the first of them, and how many.
 #[repr(C)]
-#[derive(Drop)]
+#[derive(Clone, Copy)]
 pub struct Part {
     pub from: usize,
     pub len: usize,
@@ -17,7 +19,7 @@ pub struct Part {
 // An order: where its points, its faces and its margin lie in the shared inputs; how it is thinned; and its own parts of the outputs.
 // Its place among the orders is where its answer goes.
 #[repr(C)]
-#[derive(Drop)]
+#[derive(Clone, Copy)]
 pub struct Order {
     pub points: Part,
     pub faces: Part,
@@ -32,7 +34,7 @@ pub struct Order {
 }
 
 // How many cells the buffers of a call have: the shared inputs, the outputs and the lists of answers.
-#[derive(Drop)]
+#[derive(Clone, Copy)]
 pub struct Buffers {
     pub points: usize,
     pub faces: usize,

@@ -1,4 +1,6 @@
 // The output: live faces in face order, points numbered by first use; or the mesh as it came.
+#![tactic(auto)]
+
 mod copying;
 mod writing;
 
@@ -6,7 +8,7 @@ pub use copying::copy_mesh;
 pub use writing::write_mesh;
 
 // How many points and faces were written.
-#[derive(Drop)]
+#[derive(Clone, Copy)]
 pub struct Counts {
     pub points: usize,
     pub faces: usize,

@@ -12,7 +12,7 @@ use memory::{face_in, live_at, mark_at, point_at, set_mark};
 use walk::Face;
 
 // A point's new number, and how many points have one.
-#[derive(Drop)]
+#[derive(Clone, Copy)]
 struct NewNumber {
     number: u32,
     met: usize,

@@ -1,12 +1,14 @@
 // Runs root, narrowing and order on stored bit patterns with known answers, and says how many came out right.
 // A record is 24 bytes: its kind, a verdict, six zeros, and two numbers of eight bytes, the lowest byte first.
 //   kind 1: an f32 and its root; kind 2: an f64 and the f32 nearest to it; kind 3: two f64, verdict 1 where the first comes at or before the second
+#![tactic(auto)]
+
 ghost use Rattle.std.specs.Prelude.{◌≤◌, ◌<◌};
 
 use libc::{STDIN_FILENO, STDOUT_FILENO};
 
 // How many records of each kind came out right, and how many of any kind did not.
-#[derive(Drop)]
+#[derive(Clone, Copy)]
 struct Tally {
     roots: u64,
     narrowed: u64,

@@ -3,7 +3,7 @@ ghost use Rattle.std.specs.Prelude.{◌≡◌};
 ghost use Rattle.placement.specs.Inverses.{block_of, determinant as determinant_of, first_row, second_row, third_row, inverse as inverse_of};
 
 // The block, each entry by its row and its column.
-#[derive(Drop)]
+#[derive(Clone, Copy)]
 pub struct Block {
     pub m11: f64,
     pub m12: f64,
@@ -17,7 +17,7 @@ pub struct Block {
 }
 
 // The inverse by rows. Where there is none the rows are zeros.
-#[derive(Drop)]
+#[derive(Clone, Copy)]
 pub struct Rows {
     pub exists: bool,
     pub first: [f64; 3],

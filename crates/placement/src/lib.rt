@@ -1,4 +1,6 @@
 // Where the point of a pair goes, what the pair costs, and whether it may be opened.
+#![tactic(auto)]
+
 pub mod error;
 pub mod inverse;
 pub mod pair;
@@ -10,7 +12,7 @@ ghost use Rattle.placement.specs.Choices.{kind_number, kind_of, fixed, limit_of,
 use geometry::Point;
 
 // Whether a point may move: it is free, or fixed, on the border or as a margin point.
-#[derive(Drop)]
+#[derive(Clone, Copy)]
 pub enum Kind {
     Free,
     Border,
@@ -18,21 +20,21 @@ pub enum Kind {
 }
 
 // The length that a pair may have: any, or at most so much.
-#[derive(Drop)]
+#[derive(Clone, Copy)]
 pub enum Limit {
     Unlimited,
     AtMost(f32),
 }
 
 // What bounds the pairs of a walk: the limit on a pair's length, and the bound on the size of a coordinate.
-#[derive(Drop)]
+#[derive(Clone, Copy)]
 pub struct Bounds {
     pub limit: Limit,
     pub size: f32,
 }
 
 // A pair that may be folded, by the numbers of its points, and where keep goes.
-#[derive(Drop)]
+#[derive(Clone, Copy)]
 pub struct Fold {
     pub keep: u32,
     pub remove: u32,

@@ -8,7 +8,7 @@ use crate::{Kind, Limit, is_above, is_fixed};
 use geometry::{Point, Quadric, is_finite};
 
 // What the thinning keeps of a point.
-#[derive(Drop)]
+#[derive(Clone, Copy)]
 pub struct Vertex {
     pub point: Point,
     pub quadric: Quadric,
@@ -16,7 +16,7 @@ pub struct Vertex {
 }
 
 // A pair that may be opened, with its cost and its place, or one that may not.
-#[derive(Drop)]
+#[derive(Clone, Copy)]
 pub enum Candidate {
     Eligible(f64, Point),
     Ineligible,

@@ -16,14 +16,14 @@ const LEAST: f32 = 1.0 / 8388608.0;
 const LARGEST: f32 = 1.0e30;
 
 // A solved point by its parts, or none.
-#[derive(Drop)]
+#[derive(Clone, Copy)]
 pub enum Placement {
     Solved(f32, f32, f32),
     Unsolved,
 }
 
 // A place and the error there.
-#[derive(Drop)]
+#[derive(Clone, Copy)]
 pub struct Choice {
     pub place: Point,
     pub cost: f64,

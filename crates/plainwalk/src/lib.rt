@@ -1,4 +1,6 @@
 // The plain walk: the meaning of thinning, as code. Every cost is worked out anew at each step.
+#![tactic(auto)]
+
 ghost use Rattle.std.specs.Prelude.{◌≡◌, ◌+◌, ◌*◌, ◌≤◌, ◌<◌, length};
 ghost use Rattle.memory.specs.Memory.{live_faces};
 ghost use Rattle.mesh.specs.Clauses.Chains.{Tidy};
@@ -12,7 +14,7 @@ use placement::Bounds;
 use walk::{Closings, Pair, Reason};
 
 // What a step did: it folded a pair, closed one for a reason, or found the walk at its end.
-#[derive(Drop)]
+#[derive(Clone, Copy)]
 pub enum Step {
     Folded(Pair),
     Closed(Pair, Reason),
@@ -20,7 +22,7 @@ pub enum Step {
 }
 
 // A step's answer, and the numbers of open pairs and live faces after it.
-#[derive(Drop)]
+#[derive(Clone, Copy)]
 pub struct Stepped {
     pub step: Step,
     pub open: usize,
@@ -28,7 +30,7 @@ pub struct Stepped {
 }
 
 // The folds made, the pairs closed by reason, and the faces left.
-#[derive(Drop)]
+#[derive(Clone, Copy)]
 pub struct Walked {
     pub folds: usize,
     pub closed: Closings,

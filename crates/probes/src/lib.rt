@@ -1,4 +1,6 @@
 // Single operations on bit patterns, over C, for tests alone: tests/single.c runs them beside the Rust.
+#![tactic(auto)]
+
 ghost use Rattle.std.specs.Prelude.{◌≡◌, ◌+◌, ◌≤◌, ◌<◌, length};
 ghost use Rattle.probes.specs.Patterns.{at32, at64, point_from, quadric_from, row_from, vertex_from, bare, row_bits, plane_pattern, error_pattern, Inverted, length_pattern, place_pattern, cost_pattern};
 

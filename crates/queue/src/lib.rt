@@ -2,6 +2,8 @@
 //
 // An entry becomes old when one of its points is touched by a fold. Old entries stay until they come to the top, or until they are thrown out: where the
 // caller asks for it, and where the queue is full.
+#![tactic(auto)]
+
 ghost use Rattle.std.specs.Prelude.{◌≡◌, ◌+◌, ◌*◌, ◌^◌, ◌≤◌, ◌<◌, Float, length, set};
 ghost use Rattle.placement.specs.Pairs.{pair_place, pair_cost};
 ghost use Rattle.memory.specs.Memory.{Room};
@@ -19,7 +21,7 @@ use placement::Fold;
 use walk::Pair;
 
 // What is taken off: a current entry and the number of entries left, or nothing where none was current.
-#[derive(Drop)]
+#[derive(Clone, Copy)]
 pub enum Taken {
     Found(Entry, usize),
     Empty,

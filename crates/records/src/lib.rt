@@ -1,4 +1,6 @@
 // A file's records, each a 4-byte payload length, a 2-byte kind and the payload: the numbers and floats in their bytes, the lowest byte first.
+#![tactic(auto)]
+
 ghost use Rattle.std.specs.Prelude.{◌≡◌, ◌+◌, ◌<◌, ◌≤◌, length};
 ghost use Rattle.lists.specs.Puts.{Put};
 ghost use Rattle.records.specs.Words.{two_bytes, four_bytes, float_at, as_two, as_four};

@@ -1,5 +1,7 @@
 // From a file's bytes to the reply: what is written is determined by what was read, as reply_of of specs/Replies.antt says.
 // A file has at most 128 points, 256 faces and 128 margin points, and no buffer is larger than 64 KiB.
+#![tactic(auto)]
+
 ghost use Rattle.std.specs.Prelude.{◌≡◌, ◌+◌, ◌*◌, ◌≤◌, length, take};
 ghost use Rattle.scanfile.specs.declared.Scan.TheVariants.{Good};
 ghost use Rattle.scanfile.specs.Scans.{scan_of};
@@ -21,7 +23,7 @@ use walk::Closings;
 use walking::Engine;
 
 // What is asked for: document 01's listing, or a scan file.
-#[derive(Drop)]
+#[derive(Clone, Copy)]
 pub enum Wanted {
     Listing,
     File,
@@ -29,7 +31,7 @@ pub enum Wanted {
 
 // What stands at the beginning of the buffer: so many bytes of the thinned mesh, as it was asked for; or so many of a refusal's line, with
 // its number and place. And of either the pairs closed by reason.
-#[derive(Drop)]
+#[derive(Clone, Copy)]
 pub enum Reply {
     Mesh(usize, Closings),
     Refusal(usize, u32, u32, Closings),

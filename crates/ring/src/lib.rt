@@ -1,4 +1,6 @@
 // What is around a point: its neighbours, whether it is on the border, and what two points have in common.
+#![tactic(auto)]
+
 mod around;
 mod borders;
 mod common;
@@ -13,7 +15,7 @@ pub use kinds::mark_kinds;
 pub use marking::{clear_faces, mark_faces, slot_at};
 
 // The faces around the two points of a pair, as they are listed in the memory: where each list begins and how many it has, keep's first.
-#[derive(Drop)]
+#[derive(Clone, Copy)]
 pub struct Ring {
     pub near: usize,
     pub nears: usize,

@@ -1,4 +1,6 @@
 // A mesh written as a file and read back, by the writer's code and the reader's: what comes back is what was written.
+#![tactic(auto)]
+
 ghost use Rattle.roundtrip.specs.Trips.{RoomToRead, MeshRead, what_comes_back, BackAgain};
 
 use scanfile::{Scan, read_faces, read_points, read_scan};

@@ -1,4 +1,6 @@
 // The reader of scan files: three or four records, little-endian. It answers for any bytes, as scan_of of specs/Scans.antt says.
+#![tactic(auto)]
+
 ghost use Rattle.std.specs.Prelude.{◌≡◌, ◌≤◌};
 ghost use Rattle.records.specs.Words.{numbers_from};
 ghost use Rattle.scanfile.specs.Layout.{last_end};
@@ -22,7 +24,7 @@ mod told;
 pub const MOST_BYTES: usize = 5156;
 
 // What a good file says beside its points, its faces and the margin.
-#[derive(Drop)]
+#[derive(Clone, Copy)]
 pub struct Head {
     pub unit: Unit,
     pub preserve: bool,
@@ -36,7 +38,7 @@ pub struct Head {
 }
 
 // What a file is: good, or refused by a number, 21 to 27, and a place.
-#[derive(Drop)]
+#[derive(Clone, Copy)]
 pub enum Scan {
     Good(Head),
     Bad(u32, u32),

@@ -1,5 +1,7 @@
 // The writer of document 01's file: three records into a buffer that the caller lends. It answers for any input, as ScanWritten of
 // specs/Written.antt says.
+#![tactic(auto)]
+
 ghost use Rattle.std.specs.Prelude.{◌≡◌, [], map, ◌+◌, ◌*◌, ◌≤◌, ◌<◌, length};
 ghost use Rattle.std.specs.Float.{binary32};
 ghost use Rattle.std.specs.Float.Ieee.{to_bits};
@@ -16,7 +18,7 @@ use scanfile::layout::{MOST_FACES, MOST_POINTS, POINTS_AT, SECOND_AT};
 use units::is_unit;
 
 // What writing came to: so many bytes; or a refusal by a number, 1, 24, 27 or 31, and a place, and nothing was written.
-#[derive(Drop)]
+#[derive(Clone, Copy)]
 pub enum Writing {
     Bytes(usize),
     Refused(u32, u32),

@@ -1,4 +1,6 @@
 // One order of a call with many: thinned on its parts as if it were alone, and its answer told at its place.
+#![tactic(auto)]
+
 ghost use Rattle.std.specs.Prelude.{◌≡◌, length};
 ghost use Rattle.meaning.specs.Call.{lent};
 ghost use Rattle.thinning.specs.Told.{five_of, by_reason};

@@ -1,4 +1,6 @@
 // Text in ASCII, written into a buffer that the caller lends: words, and numbers in decimal and in hexadecimal.
+#![tactic(auto)]
+
 ghost use Rattle.std.specs.Prelude.{◌≡◌, ◌∷◌, [], ◌+◌, ◌-◌, ◌≤◌, ◌<◌, length};
 ghost use Rattle.text.specs.Digits.{glyph as glyph_of, digits, digit_count, decimal, long_decimal, hexadecimal};
 ghost use Rattle.text.specs.Lines.{number_then, long_then, word_line};

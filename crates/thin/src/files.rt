@@ -25,7 +25,7 @@ pub fn print(bytes: &[u8]) {
 // ---- reading
 
 // What reading came to: so many bytes; or a failure, of which standard error has a line.
-#[derive(Drop)]
+#[derive(Clone, Copy)]
 pub enum Got {
     Bytes(usize),
     Failed,
@@ -114,7 +114,7 @@ pub fn read_input(at: usize, input: &mut [u8]) -> Got
 // ---- writing: a file beside the one that is asked for, filled, and then given its name
 
 // A new file: its descriptor, and how long its name is. Or there is none.
-#[derive(Drop)]
+#[derive(Clone, Copy)]
 enum Made {
     New(i32, usize),
     Nothing,

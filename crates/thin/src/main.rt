@@ -1,5 +1,7 @@
 // The program: a scan file in; the thinned mesh out, as document 01's listing, with why pairs were closed where that is asked for, or as a scan file. A refusal
 // is printed, and told in plain words.
+#![tactic(auto)]
+
 ghost use Rattle.std.specs.Prelude.{◌≡◌, length};
 ghost use Rattle.replies.specs.declared.Wanted.TheVariants.{File};
 ghost use Rattle.replies.specs.Clauses.{IsScan};

@@ -1,4 +1,6 @@
 // The public entry: a mesh thinned in memory that the caller lends, by the heap walk or by the plain walk.
+#![tactic(auto)]
+
 ghost use Rattle.std.specs.Prelude.{◌≡◌, ◌+◌, ◌*◌, ◌/◌, ◌≤◌, length};
 ghost use Rattle.mesh.specs.Clauses.Chains.{Tidy};
 ghost use Rattle.meaning.specs.declared.Verdict.TheVariants.{Admitted};

@@ -1,9 +1,11 @@
 // What a scan is measured in: a unit's number, and the bound on the size of its coordinates.
+#![tactic(auto)]
+
 ghost use Rattle.std.specs.Prelude.{◌≡◌, true};
 ghost use Rattle.units.specs.Units.{unit_number, unit_bound, known_unit, unit_of};
 
 // What the coordinates of a scan are in.
-#[derive(Drop)]
+#[derive(Clone, Copy)]
 pub enum Unit {
     Millimetre,
     Micrometre,

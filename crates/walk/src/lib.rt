@@ -1,11 +1,13 @@
 // Faces and pairs of points, by value, and in specs/ the meaning of the mesh, the fold and the walk over them.
+#![tactic(auto)]
+
 ghost use Rattle.std.specs.Prelude.{◌≡◌};
 ghost use Rattle.walk.specs.Faces.{holds};
 ghost use Rattle.walk.specs.Closings.{none_closed};
 ghost use Rattle.walk.specs.Clauses.{with_reason, RoomToCount};
 
 // A triangle: the numbers of its three points, in order.
-#[derive(Drop)]
+#[derive(Clone, Copy)]
 pub struct Face {
     pub a: u32,
     pub b: u32,
@@ -13,14 +15,14 @@ pub struct Face {
 }
 
 // Two points that may be folded into one: the one that stays and the one that goes.
-#[derive(Drop)]
+#[derive(Clone, Copy)]
 pub struct Pair {
     pub keep: u32,
     pub remove: u32,
 }
 
 // Why a pair is not folded: its points aren't linked as they must be, or the fold squashes a face or turns one over. A face is told by its number in the input.
-#[derive(Drop)]
+#[derive(Clone, Copy)]
 pub enum Reason {
     NotLinked,
     Squashed(usize),
@@ -28,14 +30,14 @@ pub enum Reason {
 }
 
 // What the fold test says of a pair.
-#[derive(Drop)]
+#[derive(Clone, Copy)]
 pub enum Tested {
     Allowed,
     Not(Reason),
 }
 
 // How many pairs a walk has closed for each reason.
-#[derive(Drop)]
+#[derive(Clone, Copy)]
 pub struct Closings {
     pub unlinked: u64,
     pub squashed: u64,

@@ -1,4 +1,6 @@
 // A mesh laid out in the work memory and walked by either engine, with its folds listed.
+#![tactic(auto)]
+
 ghost use Rattle.std.specs.Prelude.{◌≡◌, ◌+◌, ◌*◌, ◌/◌, ◌≤◌, min, length, true};
 ghost use Rattle.memory.specs.Memory.{Room};
 ghost use Rattle.memory.specs.Entries.{folds_in};
@@ -13,14 +15,14 @@ use units::{unit_bound, unit_of};
 use walk::Closings;
 
 // How the mesh is walked: by every cost worked out anew, or by a queue.
-#[derive(Drop)]
+#[derive(Clone, Copy)]
 pub enum Engine {
     Plain,
     Heap,
 }
 
 // What the walk of a mesh came to: the faces it was to reach, how many points are fixed, the folds made, and the pairs closed by reason.
-#[derive(Drop)]
+#[derive(Clone, Copy)]
 pub struct Came {
     pub target: usize,
     pub fixed: usize,

@@ -1,4 +1,6 @@
 // What an answer's number means, in plain words, into a buffer that the caller lends.
+#![tactic(auto)]
+
 ghost use Rattle.std.specs.Prelude.{◌+◌, ◌≤◌, length};
 ghost use Rattle.lists.specs.Puts.{Put};
 ghost use Rattle.wording.specs.Meanings.{placed, words_line, words_room};
@@ -7,7 +9,7 @@ ghost use Rattle.wording.specs.Cells.{before_bar, Means};
 use text::{put_byte, put_decimal, put_number, put_word};
 
 // Two cells of fixed width: what a number means, and what its place counts. A cell's words end before its bar, or with the cell.
-#[derive(Drop)]
+#[derive(Clone, Copy)]
 struct Cells([u8; 53], [u8; 17]);
 
 // What the library's answers mean.
