@@ -1,0 +1,21 @@
+-- `foldtest::is_linked` meets its contract: the faces around keep that hold remove are the shared ones.
+-- Assumes nothing.
+use mathlib.Core.Path.{refl}
+use borrow.Author.Rules.{rules}
+use Rattle.ring.proofs.AroundLaws.{may-count}
+use Rattle.foldtest.proofs.LinkLaws.{not-linked, link-decided}
+use Rattle.foldtest.proofs.is_linked.Goals as goal
+
+pub shared_count-shared-requires : goal.shared_count-shared-requires
+shared_count-shared-requires c = may-count c.requires.fact_1 c.requires.fact_2
+
+pub returns-then-shared-lt1 : goal.returns-then-shared-lt1
+returns-then-shared-lt1 c =
+    record { value = not-linked c.args.fold.remove c.requires.fact_2.gathered c.shared_count-shared.ensures c.if-shared-lt1.true; w_unchanged = refl }
+
+pub common_count-requires : goal.common_count-requires
+common_count-requires c = c.requires
+
+pub returns : goal.returns
+returns c =
+    record { value = link-decided c.args.fold.remove c.requires.fact_2.gathered c.shared_count-shared.ensures c.if-shared-lt1.false c.common_count.ensures.value; w_unchanged = c.common_count.ensures.w_unchanged }

@@ -1,0 +1,24 @@
+-- `foldtest::tested` meets its contract: the test of numbers, which leaves the memory as it was, and then the test of faces.
+-- Assumes nothing.
+use borrow.Author.Rules.{rules}
+use Rattle.foldtest.proofs.LinkLaws.{tested-unlinked, tested-by-faces}
+use Rattle.foldtest.proofs.tested.Goals as goal
+
+pub is_linked-requires : goal.is_linked-requires
+is_linked-requires c = (c.requires.fact_1, c.requires.1.1)
+
+pub tested_faces-requires : goal.tested_faces-requires
+tested_faces-requires c =
+    rw c.is_linked.ensures.w_unchanged c.requires
+
+pub returns-then-is_linked : goal.returns-then-is_linked
+returns-then-is_linked c =
+    record {
+      value = tested-by-faces c.args.v c.args.f c.args.w.now c.args.p.now c.args.fold.keep c.args.fold.remove c.args.fold.place c.is_linked.ensures.value c.if-is_linked.true
+          c.is_linked.ensures.w_unchanged c.tested_faces.ensures;
+      w_unchanged = c.is_linked.ensures.w_unchanged;
+    }
+
+pub returns : goal.returns
+returns c =
+    record { value = tested-unlinked c.args.v c.args.f c.args.w.now c.args.p.now c.args.fold.keep c.args.fold.remove c.args.fold.place c.is_linked.ensures.value c.if-is_linked.false; w_unchanged = c.is_linked.ensures.w_unchanged }

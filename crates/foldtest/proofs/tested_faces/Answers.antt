@@ -1,0 +1,24 @@
+-- `foldtest::tested_faces` meets its contract: the lowest face that is harmed is told, where there is one.
+-- Assumes nothing.
+use native.Mathlib.Omega.{arith}
+use Rattle.foldtest.proofs.HarmLaws.{face-placed, faces-allow, faces-refuse}
+use Rattle.foldtest.proofs.tested_faces.Goals as goal
+
+pub lowest_around-k-requires : goal.lowest_around-k-requires
+lowest_around-k-requires c = c.requires
+
+pub face_in-requires : goal.face_in-requires
+face_in-requires c =
+    (c.if-k-f.true, omega (arith, c.requires.fact_1.room))
+
+pub tested_face-requires : goal.tested_face-requires
+tested_face-requires c =
+    face-placed c.args.v c.face_in.ensures
+    (c.requires.fact_1.faces_proper _ c.if-k-f.true (c.lowest_around-k.ensures.found c.if-k-f.true).0) c.requires.fact_2
+
+pub returns-then-k-f : goal.returns-then-k-f
+returns-then-k-f c =
+    faces-refuse c.lowest_around-k.ensures c.if-k-f.true c.face_in.ensures c.tested_face.ensures
+
+pub returns : goal.returns
+returns c = faces-allow c.lowest_around-k.ensures c.if-k-f.false

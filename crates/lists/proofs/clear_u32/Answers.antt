@@ -1,0 +1,17 @@
+-- `lists::clear_u32` meets its contract. The loop's invariant: the cells below `i` are set.
+-- The measure is what is left of `n`. Assumes nothing.
+use Prim.Native.Nat.{◌≤◌, ◌-◌}
+use native.Mathlib.Omega.{arith}
+use mathlib.Core.Path.{◌≡◌, refl}
+use lib.ListN.{length, length-set}
+use Rattle.lists.proofs.OverlayLaws.{cleared, clear-more, clear-all}
+use Rattle.lists.proofs.clear_u32.Goals as goal
+
+pub loop-i-init : goal.loop-i-init
+loop-i-init c = (omega arith, refl, refl)
+
+pub loop-i-preserved : goal.loop-i-preserved
+loop-i-preserved c = (omega arith, simp length-set c.loop-i.invariant.1, clear-more 0 c.loop-i.i _ _ (omega arith) c.loop-i.invariant.1 c.loop-i.invariant.2)
+
+pub returns : goal.returns
+returns c = clear-all 0 c.loop-i.i c.args.n _ _ (omega arith) (omega arith) c.loop-i.invariant.2

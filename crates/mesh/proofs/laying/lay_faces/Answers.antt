@@ -1,0 +1,34 @@
+-- `mesh::laying::lay_faces` meets its contract: what linking the corners asks, and the whole, follow from what each step leaves.
+-- Assumes nothing.
+use Prim.Native.Nat.{◌*◌}
+use lib.ListN.{get_or}
+use Rattle.lists.specs.Frames.{Written}
+use native.Mathlib.Omega.{arith}
+use borrow.Author.Rules.{rules}
+use Rattle.lists.proofs.WrittenLaws.{written_from, copy_written}
+use Rattle.mesh.proofs.LayLaws.{joinable, laid}
+use Rattle.mesh.proofs.laying.lay_faces.Goals as goal
+use Rattle.mesh.proofs.laying.lay_faces.Goals.{After-copy_u32}
+
+-- the faces stand in the first cells
+copied-faces : (c : After-copy_u32) → Written 0 (3 * c.args.f) (λ i. get_or c.args.faces.now i 0) c.args.w.now c.copy_u32.new.out.1.0
+copied-faces c = copy_written c.args.faces.now c.pre.1.0 (omega (arith, c.pre.0.long)) c.copy_u32.ensures
+
+-- ---- the needs
+pub fill-requires : goal.fill-requires
+fill-requires c = rw c.lives_from.ensures (omega arith)
+
+pub fill-requires-2 : goal.fill-requires-2
+fill-requires-2 c = rw c.firsts_from.ensures (omega arith)
+
+pub join-requires : goal.join-requires
+join-requires c =
+    joinable c.args.faces.now c.pre.0 c.pre.1.1 (copied-faces (goal.at.join-requires c).After-copy_u32)
+    (written_from c.lives_from.ensures c.fill.ensures)
+    (written_from c.firsts_from.ensures c.fill-2.ensures)
+
+pub returns : goal.returns
+returns c =
+    laid c.args.faces.now c.pre.0 c.pre.1.1 (copied-faces (goal.at.returns c).After-copy_u32)
+    (written_from c.lives_from.ensures c.fill.ensures)
+    (written_from c.firsts_from.ensures c.fill-2.ensures) c.join.ensures

@@ -1,0 +1,62 @@
+-- `mesh::links::collect` meets its contract. The loop's invariant: what is listed and what is ahead is what is around the point.
+-- The measure is the number of corners ahead. Assumes nothing.
+use Prim.Native.Nat.{◌-◌, ◌*◌, ◌<◌}
+use native.Mathlib.Omega.{arith}
+use borrow.Author.Rules.{rules}
+use Rattle.mesh.proofs.WalkLaws.{Walk, steps, start, inside, less, passed, some-room, noted, collected}
+use Rattle.mesh.proofs.links.collect.Goals as goal
+use Rattle.mesh.proofs.links.collect.Goals.{In-loop-link, Then-live_at-eq1}
+
+-- the link names a corner
+corner-inside : (c : In-loop-link) → c.loop-link.link - 1 < 3 * c.args.f
+corner-inside c = inside (omega arith) c.loop-link-test.true c.loop-link.invariant
+
+-- where the corner's face is live there is room for it
+room-left : (c : Then-live_at-eq1) →
+    c.loop-link.n < c.args.f
+room-left c =
+    some-room (omega arith) c.loop-link-test.taken c.loop-link.inv
+    c.next_at-link.ensures c.Live-at.ensures c.if-live_at-eq1.true
+
+pub loop-link-init : goal.loop-link-init
+loop-link-init c = start _ c.first_at-link.ensures c.requires.fact_1 c.requires.fact_2
+
+pub next_at-link-requires : goal.next_at-link-requires
+next_at-link-requires c = omega (arith, corner-inside (goal.at.next_at-link-requires c).At-loop-link)
+
+pub live_at-requires : goal.live_at-requires
+live_at-requires c = omega (arith, corner-inside (goal.at.live_at-requires c).After-first_at-link)
+
+pub overflow_cast-w : goal.overflow_cast-w
+overflow_cast-w c = omega (arith, corner-inside (goal.at.overflow_cast-w c).In-loop-link)
+
+pub overflow_add-w : goal.overflow_add-w
+overflow_add-w c = omega (arith, room-left (goal.at.overflow_add-w c).Then-live_at-eq1)
+
+pub offset_bounds-w-base : goal.offset_bounds-w-base
+offset_bounds-w-base c = omega (arith, room-left (goal.at.offset_bounds-w-base c).Then-live_at-eq1)
+
+pub bounds-w-base : goal.bounds-w-base
+bounds-w-base c = omega (arith, room-left (goal.at.bounds-w-base c).Then-live_at-eq1)
+
+pub overflow_add-n : goal.overflow_add-n
+overflow_add-n c = omega (arith, room-left (goal.at.overflow_add-n c).Then-live_at-eq1)
+
+pub loop-link-smaller-then-live_at-eq1 : goal.loop-link-smaller-then-live_at-eq1
+loop-link-smaller-then-live_at-eq1 c = less (omega arith) c.loop-link-test.taken c.loop-link.inv c.next_at-link.ensures
+
+pub loop-link-preserved-then-live_at-eq1 : goal.loop-link-preserved-then-live_at-eq1
+loop-link-preserved-then-live_at-eq1 c =
+    noted (omega arith) c.loop-link-test.taken c.loop-link.inv
+    c.next_at-link.ensures c.Live-at.ensures c.if-live_at-eq1.true (omega arith)
+
+pub loop-link-smaller : goal.loop-link-smaller
+loop-link-smaller c = less (omega arith) c.loop-link-test.taken c.loop-link.inv c.next_at-link.ensures
+
+pub loop-link-preserved : goal.loop-link-preserved
+loop-link-preserved c =
+    passed (omega arith) c.loop-link-test.taken c.loop-link.inv
+    c.next_at-link.ensures c.Live-at.ensures c.if-live_at-eq1.false
+
+pub returns : goal.returns
+returns c = collected (omega arith) c.loop-link-test.false c.loop-link.invariant

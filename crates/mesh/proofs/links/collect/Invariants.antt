@@ -1,0 +1,13 @@
+-- `mesh::links::collect` meets its contract. The loop's invariant: what is listed and what is ahead is what is around the point.
+-- The measure is the number of corners ahead. Assumes nothing.
+use Prim.Native.Nat.{◌-◌, ◌*◌, ◌<◌}
+use native.Mathlib.Omega.{arith}
+use borrow.Author.Rules.{rules}
+use Rattle.mesh.proofs.WalkLaws.{Walk, steps, start, inside, less, passed, some-room, noted, collected}
+use Rattle.mesh.proofs.links.collect.Given as goal
+
+abbrev pub invariant-loop-link : goal.invariant-loop-link
+invariant-loop-link l = Walk l.v l.f l.initial.w l.x l.base l.w l.n l.link
+
+abbrev pub decreases-loop-link : goal.decreases-loop-link
+decreases-loop-link l = steps l.f l.initial.w (3 * l.f) l.link

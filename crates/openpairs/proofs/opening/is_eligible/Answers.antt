@@ -1,0 +1,12 @@
+-- `openpairs::opening::is_eligible` meets its contract: it is asked of the two vertices that were read.
+-- Assumes nothing.
+use mathlib.Core.Path.{ap₂, ◌∙◌}
+use borrow.Author.Rules.{rules}
+use Rattle.placement.specs.Pairs.{eligible}
+use Rattle.openpairs.specs.Clauses.Waiting.{fits}
+use Rattle.openpairs.proofs.opening.is_eligible.Goals as goal
+
+pub returns : goal.returns
+unfolding fits
+returns c =
+    c.pair_eligible.ensures ∙ ap₂ (eligible c.args.bounds.limit c.args.bounds.size) c.vertex_at-stays.ensures c.vertex_at-goes.ensures

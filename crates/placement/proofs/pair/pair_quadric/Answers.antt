@@ -1,0 +1,10 @@
+-- `placement::pair::pair_quadric` meets its contract, from what `sum` ensures. Assumes nothing.
+use Rattle.placement.specs.Pairs.{pair_quadric}
+use Rattle.placement.proofs.pair.pair_quadric.Goals as goal
+
+pub sum-requires : goal.sum-requires
+sum-requires c = tt
+
+pub returns : goal.returns
+unfolding pair_quadric
+returns c = c.sum.ensures

@@ -1,0 +1,6 @@
+-- `probes::bare_from` meets its contract. Assumes nothing.
+use borrow.Author.Rules.{rules}
+use Rattle.probes.proofs.bare_from.Goals as goal
+
+pub returns : goal.returns
+returns c = rw (c.point_from.ensures, c.start.ensures)

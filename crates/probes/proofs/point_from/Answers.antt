@@ -1,0 +1,6 @@
+-- `probes::point_from` meets its contract. Assumes nothing.
+use borrow.Author.Rules.{rules}
+use Rattle.probes.proofs.point_from.Goals as goal
+
+pub returns : goal.returns
+returns c = rw (c.f32_at.ensures, c.f32_at-2.ensures, c.f32_at-3.ensures)

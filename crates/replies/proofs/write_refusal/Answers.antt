@@ -1,0 +1,7 @@
+-- `replies::write_refusal` meets its contract: there is room. Assumes nothing.
+use borrow.Author.Rules.{rules}
+use Rattle.replies.proofs.ReplyLaws.{refusal-replied}
+use Rattle.replies.proofs.write_refusal.Goals as goal
+
+pub returns : goal.returns
+returns c = refusal-replied _ _ _ _ c.requires c.list_refusal.ensures c.size_in-size.ensures

@@ -1,0 +1,7 @@
+-- `ring::around::face_near` meets its contract: the face is the one in the slot that was read.
+-- Assumes nothing.
+use borrow.Author.Rules.{rules}
+use Rattle.ring.proofs.around.face_near.Goals as goal
+
+pub returns : goal.returns
+returns c = rw c.near_at-k.ensures at c.face_in.ensures

@@ -1,0 +1,17 @@
+-- `ring::around::mark_wanted` meets its contract. The loop's invariant: the points that the faces passed ask for are marked.
+-- The measure is how many faces are left. Assumes nothing.
+use Prim.Native.Nat.{◌≤◌, ◌-◌}
+use mathlib.Core.Bool.{◌&&◌}
+use borrow.Author.Rules.{rules}
+use Rattle.walk.specs.Faces.{holds}
+use Rattle.ring.specs.Clauses.Wanting.{wanted}
+use Rattle.ring.specs.Clauses.Taking.{Framed}
+use Rattle.ring.proofs.FrameLaws.{framed-marks, framed-room, framed-list, read-listed, read-proper}
+use Rattle.ring.proofs.WantedLaws.{Marking, marking-none, marking-next, marking-all}
+use Rattle.ring.proofs.around.mark_wanted.Given as goal
+
+abbrev pub invariant-loop-i : goal.invariant-loop-i
+invariant-loop-i l = (l.i ≤ l.count) × Marking l.v l.f (λ u face. holds u face && wanted l.rising l.x u face) l.initial.w l.i l.w
+
+abbrev pub decreases-loop-i : goal.decreases-loop-i
+decreases-loop-i l = l.count - l.i

@@ -1,0 +1,29 @@
+-- `ring::kinds::count_fixed` meets its contract. The loop's invariant: the fixed points below `x` are counted.
+-- The measure is what is left of the points. Assumes nothing.
+use Prim.Native.Nat.{◌-◌}
+use native.Mathlib.Omega.{arith}
+use mathlib.Core.Path.{ap, ◌∙◌}
+use mathlib.Core.Logic.{⊎_elim}
+use borrow.Author.Rules.{rules}
+use Rattle.placement.specs.Choices.{kind_of, fixed}
+use Rattle.ring.proofs.KindLaws.{CountedTo, counted_none, counted-few, counted-more, counted-all}
+use Rattle.ring.proofs.kinds.count_fixed.Goals as goal
+
+pub loop-x-init : goal.loop-x-init
+loop-x-init c = counted_none _ _ _
+
+pub kind_at-number-requires : goal.kind_at-number-requires
+kind_at-number-requires c = omega (arith, c.requires)
+
+pub overflow_add-n : goal.overflow_add-n
+overflow_add-n c =
+    omega (arith, counted-few c.loop-x.invariant, c.requires)
+
+pub loop-x-preserved : goal.loop-x-preserved
+loop-x-preserved c =
+    counted-more c.loop-x.invariant c.loop-x-test.true
+    (c.is_fixed.ensures ∙ ap fixed (c.kind_of.ensures ∙ ap kind_of c.kind_at-number.ensures))
+    (⊎_elim (λ p. rw p.0.taken p.1) (λ p. rw p.0.left (omega arith)) c.if-is_fixed.branch)
+
+pub returns : goal.returns
+returns c = counted-all c.loop-x.invariant c.loop-x-test.false

@@ -1,0 +1,17 @@
+-- `scanfile::read_numbers` meets its contract. The loop's invariant: the first `i` numbers are written. The measure is how many are left.
+-- Assumes nothing.
+use Prim.Native.Nat.{ℕ, ◌+◌, ◌*◌, ◌-◌, ◌≤◌}
+use native.Mathlib.Omega.{arith}
+use mathlib.Core.Path.{ap, ◌∙◌}
+use mathlib.Core.List.{List, map-id}
+use lib.ListN.{length}
+use Rattle.records.specs.Words.{numbers_from}
+use Rattle.lists.specs.Lists.{overlaid}
+use Rattle.scanfile.proofs.ContentLaws.{Reading, start, turn, done}
+use Rattle.scanfile.proofs.read_numbers.Given as goal
+
+abbrev pub invariant-loop-i : goal.invariant-loop-i
+invariant-loop-i l = Reading (λ (x : ℕ). x) l.bytes l.at l.n l.initial.out l.out l.i
+
+abbrev pub decreases-loop-i : goal.decreases-loop-i
+decreases-loop-i l = l.n - l.i

@@ -1,0 +1,17 @@
+-- `scanfile::read_points` meets its contract. The loop's invariant: the first `i` coordinates are written. The measure is how many are left.
+-- Assumes nothing.
+use Prim.Native.Nat.{◌*◌, ◌-◌}
+use native.Mathlib.Omega.{arith}
+use lib.Ieee.{binary32, of_bits}
+use Rattle.scanfile.proofs.ContentLaws.{Reading, start, turn, done}
+use Rattle.scanfile.proofs.read_points.Goals as goal
+
+pub loop-i-init : goal.loop-i-init
+loop-i-init c = start _ _ _ _ _
+
+pub loop-i-preserved : goal.loop-i-preserved
+loop-i-preserved c =
+    turn _ _ _ _ _ c.loop-i.out c.loop-i.i _ c.loop-i.invariant (omega arith) (omega arith) c.Float-at.ensures
+
+pub returns : goal.returns
+returns c = done _ _ _ _ _ c.loop-i.out c.loop-i.i c.loop-i.invariant (omega arith)

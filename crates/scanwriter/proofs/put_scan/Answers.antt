@@ -1,0 +1,14 @@
+-- `scanwriter::put_scan` meets its contract, one record after another. Assumes nothing.
+use native.Mathlib.Omega.{arith}
+use borrow.Author.Rules.{rules}
+use Rattle.units.proofs.UnitLaws.{number_short}
+use Rattle.scanwriter.proofs.WritingLaws.{scan-put}
+use Rattle.scanwriter.proofs.put_scan.Goals as goal
+
+pub put_options-second-requires : goal.put_options-second-requires
+put_options-second-requires c = record { fact_1 = number_short _ c.requires.unit_known; fact_2 = omega arith }
+
+pub returns : goal.returns
+returns c =
+    scan-put _ _ _ c.requires c.put_options-second.ensures c.put_head-at_points.ensures c.put_points-third.ensures c.put_head-at_faces.ensures
+    c.put_faces.ensures

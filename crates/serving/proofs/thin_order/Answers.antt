@@ -1,0 +1,40 @@
+-- `serving::thin_order` meets its contract: the order's parts lie in the outputs, what the single call leaves stands in their place, and its answer is told.
+-- Assumes nothing.
+use borrow.Author.Rules.{rules}
+use Rattle.meaning.specs.Call.{lent}
+use Rattle.serving.specs.Desks.{sources}
+use Rattle.serving.proofs.OrderLaws.{order-done}
+use Rattle.serving.proofs.thin_order.Goals as goal
+
+pub tell_at-requires : goal.tell_at-requires
+tell_at-requires c =
+    record { fact_1 = c.requires.answer; fact_2 = c.requires.closed }
+
+pub shape_of-work_u32 : goal.shape_of-work_u32
+shape_of-work_u32 c = c.work_u32-1.given
+
+pub shape_of-work_f32 : goal.shape_of-work_f32
+shape_of-work_f32 c = c.work_f32-1.given
+
+pub shape_of-work_f64 : goal.shape_of-work_f64
+shape_of-work_f64 c = c.work_f64-1.given
+
+pub shape_of-answers : goal.shape_of-answers
+shape_of-answers c = c.answers-1.given
+
+pub shape_of-closed : goal.shape_of-closed
+shape_of-closed c = c.closed-1.given
+
+pub returns : goal.returns
+returns c =
+    order-done (sources c.args.points.now c.args.faces.now c.args.margins.now) c.args.order c.args.place
+    (lent c.args.out-points.now c.args.out-faces.now c.args.work-u32.now c.args.work-f32.now c.args.work-f64.now) _
+    c.thin_into-r.ensures
+    (record {
+      points = c.out_points-1.given.0;
+      faces = c.out_faces-1.given.0;
+      u32s = c.work_u32-1.given;
+      f32s = c.work_f32-1.given;
+      f64s = c.work_f64-1.given;
+    })
+    c.tell_at.ensures

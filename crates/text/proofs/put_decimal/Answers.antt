@@ -1,0 +1,11 @@
+-- `text::put_decimal` meets its contract: a number has at most ten digits. Assumes nothing.
+use native.Mathlib.Omega.{arith}
+use borrow.Author.Rules.{rules}
+use Rattle.text.proofs.DigitLaws.{digit-count-most, decimal-stored}
+use Rattle.text.proofs.put_decimal.Goals as goal
+
+pub put_digits-requires : goal.put_digits-requires
+put_digits-requires c = record { fact_1 = omega arith; fact_2 = omega arith; fact_3 = omega (arith, digit-count-most 9 c.args.n) }
+
+pub returns : goal.returns
+returns c = decimal-stored c.args.n c.digit_count-k.ensures c.put_digits.ensures

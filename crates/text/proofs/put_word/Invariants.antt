@@ -1,0 +1,16 @@
+-- `text::put_word` meets its contract. The loop's invariant: the first i bytes are stored.
+-- The measure is what is left of the word. Assumes nothing.
+use Prim.Native.Nat.{◌-◌, ◌≤◌}
+use native.Mathlib.Omega.{arith}
+use mathlib.Core.Path.{◌≡◌, refl}
+use borrow.Author.Rules.{rules}
+use lib.ListN.{length, take, length-set}
+use lib.Seq.{sets, take_all}
+use Rattle.lists.proofs.PutLaws.{put, word_more}
+use Rattle.text.proofs.put_word.Given as goal
+
+abbrev pub invariant-loop-i : goal.invariant-loop-i
+invariant-loop-i l = (l.i ≤ length l.word) × (length l.out ≡ length l.initial.out) × (l.out ≡ sets l.initial.out l.at (take l.i l.word))
+
+abbrev pub decreases-loop-i : goal.decreases-loop-i
+decreases-loop-i l = length l.word - l.i

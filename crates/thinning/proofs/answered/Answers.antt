@@ -1,0 +1,33 @@
+-- `thinning::answered` meets its contract: in each arm the definition's test is decided as the code's, and what `write_mesh` counted fits.
+-- Assumes nothing.
+use mathlib.Core.Path.{refl}
+use borrow.Author.Rules.{rules}
+use Rattle.lists.proofs.FrameLaws.{but-refl}
+use Rattle.thinning.proofs.MemoryLaws.{used-fits, live-fits, written-finished}
+use Rattle.walking.proofs.FitLaws.{below-fits}
+use Rattle.thinning.proofs.answered.Goals as goal
+
+pub returns-then-came-f : goal.returns-then-came-f
+returns-then-came-f c = rw c.if-came-f.true (record { but = but-refl _ _ _; answered = c.stuck.ensures; points_written = refl; faces_written = refl })
+
+pub overflow_cast-result : goal.overflow_cast-result
+overflow_cast-result c = used-fits c.requires.fact_1 c.write_mesh-counts.ensures.points_counted
+
+pub overflow_cast-result-2 : goal.overflow_cast-result-2
+overflow_cast-result-2 c = live-fits c.requires.fact_1 c.write_mesh-counts.ensures.faces_counted
+
+pub overflow_cast-result-3 : goal.overflow_cast-result-3
+overflow_cast-result-3 c = below-fits c.requires.fact_5.1 c.requires.fact_1.room.faces_few
+
+pub shape_of-w : goal.shape_of-w
+shape_of-w c = c.w-1.given
+
+pub shape_of-out_points : goal.shape_of-out_points
+shape_of-out_points c = c.out_points-1.given
+
+pub shape_of-out_faces : goal.shape_of-out_faces
+shape_of-out_faces c = c.out_faces-1.given
+
+pub returns : goal.returns
+returns c =
+    rw c.if-came-f.false (written-finished c.args.came.folds c.args.came.closed c.write_mesh-counts.ensures)

@@ -1,0 +1,40 @@
+-- `thinning::copied` meets its contract: the mesh is copied and the work memory cleared.
+-- Assumes nothing.
+use borrow.Author.Rules.{rules}
+use Rattle.walking.proofs.FitLaws.{points_fit, few-fits}
+use Rattle.thinning.proofs.copied.Goals as goal
+
+pub clear-requires : goal.clear-requires
+clear-requires c = c.requires.working
+
+pub overflow_cast-result : goal.overflow_cast-result
+overflow_cast-result c = points_fit c.pre.working.u32s.points_few
+
+pub overflow_cast-result-2 : goal.overflow_cast-result-2
+overflow_cast-result-2 c = few-fits c.pre.working.u32s.faces_few
+
+pub shape_of-out_points : goal.shape_of-out_points
+shape_of-out_points c = c.out_points-1.given
+
+pub shape_of-out_faces : goal.shape_of-out_faces
+shape_of-out_faces c = c.out_faces-1.given
+
+pub shape_of-w : goal.shape_of-w
+shape_of-w c = c.w-1.given
+
+pub shape_of-p : goal.shape_of-p
+shape_of-p c = c.p-1.given
+
+pub shape_of-q : goal.shape_of-q
+shape_of-q c = c.q-1.given
+
+pub returns : goal.returns
+returns c =
+    record {
+      answered = rw c.none_closed-closed.ensures;
+      points_written = c.copy_mesh.ensures.points;
+      faces_written = c.copy_mesh.ensures.faces;
+      u32s_left = c.clear.ensures.u32s;
+      f32s_left = c.clear.ensures.f32s;
+      f64s_left = c.clear.ensures.f64s;
+    }

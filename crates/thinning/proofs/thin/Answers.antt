@@ -1,0 +1,69 @@
+-- `thinning::thin` meets its contract: for any input each arm leaves the outcome that the checks' verdict names.
+-- Assumes nothing.
+use mathlib.Core.Path.{◌≡◌, sym, ◌∙◌}
+use borrow.Author.Rules.{rules}
+use Rattle.meaning.specs.declared.Verdict.TheVariants.{Copied}
+use Rattle.meaning.specs.Input.{Input}
+use Rattle.meaning.specs.Answers.{verdict_of}
+use Rattle.meaning.specs.Call.{Lent, lent, input_of}
+use Rattle.checks.proofs.VerdictLaws as verdicts
+use Rattle.thinning.proofs.SizeLaws.{measured}
+use Rattle.thinning.proofs.VerdictLaws as outcomes
+use Rattle.thinning.proofs.thin.Goals as goal
+use Rattle.thinning.proofs.thin.Goals.{In-Copied}
+
+-- the verdict, where it is to copy
+is-copied : (c : In-Copied) → Copied ≡ verdict_of ((input_of c.args.points.now c.args.faces.now c.args.margin.now c.args.options ((lent c.args.out-points.now c.args.out-faces.now c.args.work-u32.now c.args.work-f32.now c.args.work-f64.now))))
+is-copied c = sym c.in-Copied.is ∙ c.verdict_of.ensures
+
+pub copied-requires : goal.copied-requires
+copied-requires c =
+    measured c.args.points.now c.args.faces.now c.args.margin.now c.args.options ((lent c.args.out-points.now c.args.out-faces.now c.args.work-u32.now c.args.work-f32.now c.args.work-f64.now)) (verdicts.copied ((input_of c.args.points.now c.args.faces.now c.args.margin.now c.args.options ((lent c.args.out-points.now c.args.out-faces.now c.args.work-u32.now c.args.work-f32.now c.args.work-f64.now)))) (sym (is-copied (goal.at.copied-requires c).In-Copied))).sized
+
+pub admitted-requires : goal.admitted-requires
+admitted-requires c =
+    sym c.verdict_of.ensures ∙ c.in-Admitted.is
+
+pub returns-in-Refused : goal.returns-in-Refused
+returns-in-Refused c =
+    outcomes.refused c.args.engine ((input_of c.args.points.now c.args.faces.now c.args.margin.now c.args.options ((lent c.args.out-points.now c.args.out-faces.now c.args.work-u32.now c.args.work-f32.now c.args.work-f64.now)))) (sym c.in-Refused.is ∙ c.verdict_of.ensures) c.refusal.ensures
+
+pub shape_of-out_points-in-Copied : goal.shape_of-out_points-in-Copied
+shape_of-out_points-in-Copied c = c.out_points-1.given
+
+pub shape_of-out_faces-in-Copied : goal.shape_of-out_faces-in-Copied
+shape_of-out_faces-in-Copied c = c.out_faces-1.given
+
+pub shape_of-work_u32-in-Copied : goal.shape_of-work_u32-in-Copied
+shape_of-work_u32-in-Copied c = c.work_u32-1.given
+
+pub shape_of-work_f32-in-Copied : goal.shape_of-work_f32-in-Copied
+shape_of-work_f32-in-Copied c = c.work_f32-1.given
+
+pub shape_of-work_f64-in-Copied : goal.shape_of-work_f64-in-Copied
+shape_of-work_f64-in-Copied c = c.work_f64-1.given
+
+pub returns-in-Copied : goal.returns-in-Copied
+returns-in-Copied c =
+    outcomes.copied c.args.engine ((input_of c.args.points.now c.args.faces.now c.args.margin.now c.args.options ((lent c.args.out-points.now c.args.out-faces.now c.args.work-u32.now c.args.work-f32.now c.args.work-f64.now)))) (is-copied (goal.at.returns-in-Copied c).In-Copied) c.copied.ensures
+
+pub shape_of-out_points-in-Admitted : goal.shape_of-out_points-in-Admitted
+shape_of-out_points-in-Admitted c = c.out_points-in-Admitted-1.given
+
+pub shape_of-out_faces-in-Admitted : goal.shape_of-out_faces-in-Admitted
+shape_of-out_faces-in-Admitted c = c.out_faces-in-Admitted-1.given
+
+pub shape_of-work_u32-in-Admitted : goal.shape_of-work_u32-in-Admitted
+shape_of-work_u32-in-Admitted c = c.work_u32-in-Admitted-1.given
+
+pub shape_of-work_f32-in-Admitted : goal.shape_of-work_f32-in-Admitted
+shape_of-work_f32-in-Admitted c = c.work_f32-in-Admitted-1.given
+
+pub shape_of-work_f64-in-Admitted : goal.shape_of-work_f64-in-Admitted
+shape_of-work_f64-in-Admitted c = c.work_f64-in-Admitted-1.given
+
+pub shape_of-folds : goal.shape_of-folds
+shape_of-folds c = c.folds-1.given
+
+pub returns-in-Admitted : goal.returns-in-Admitted
+returns-in-Admitted c = c.admitted.ensures

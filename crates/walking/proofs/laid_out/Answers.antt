@@ -1,0 +1,24 @@
+-- `walking::laid_out` meets its contract: what the four steps leave is the mesh at the start.
+-- Assumes nothing.
+use mathlib.Core.Path.{◌∙◌}
+use borrow.Author.Rules.{rules}
+use Rattle.walking.proofs.LaidLaws.{quadrics-asked, laid_out}
+use Rattle.walking.proofs.laid_out.Goals as goal
+
+pub lay_quadrics-requires : goal.lay_quadrics-requires
+lay_quadrics-requires c =
+    quadrics-asked c.pre c.lay_faces.ensures c.mark_kinds-fixed.ensures.kinded c.lay_points.ensures
+
+pub shape_of-w : goal.shape_of-w
+shape_of-w c = c.w-2-1.given ∙ c.w-1.given
+
+pub shape_of-p : goal.shape_of-p
+shape_of-p c = c.p-1.given
+
+pub shape_of-q : goal.shape_of-q
+shape_of-q c = c.q-1.given
+
+pub returns : goal.returns
+returns c =
+    laid_out c.pre c.lay_faces.ensures c.mark_kinds-fixed.ensures.kinded c.lay_points.ensures
+    c.lay_quadrics.ensures c.mark_kinds-fixed.ensures.value

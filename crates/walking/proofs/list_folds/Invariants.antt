@@ -1,0 +1,16 @@
+-- `walking::list_folds` meets its contract. The loop's invariant: the numbers below `i` are copied. The measure is what is left of `n`.
+-- Assumes nothing.
+use Prim.Native.Nat.{ℕ, ◌+◌, ◌≤◌, ◌-◌}
+use native.Mathlib.Omega.{arith}
+use mathlib.Core.Path.{◌≡◌, refl, ap, ◌∙◌}
+use lib.ListN.{length, get_or, set, length-set}
+use borrow.Author.Rules.{rules}
+use Rattle.lists.proofs.OverlayLaws.{copied}
+use Rattle.walking.proofs.FoldListLaws.{row, row_more, row-all}
+use Rattle.walking.proofs.list_folds.Given as goal
+
+abbrev pub invariant-loop-i : goal.invariant-loop-i
+invariant-loop-i l = (l.i ≤ l.n) × (length l.folds ≡ length l.initial.folds) × (l.folds ≡ copied l.i (row l.v l.f l.w l.made l.initial.folds) l.initial.folds)
+
+abbrev pub decreases-loop-i : goal.decreases-loop-i
+decreases-loop-i l = l.n - l.i

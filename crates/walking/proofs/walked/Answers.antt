@@ -1,0 +1,50 @@
+-- `walking::walked` meets its contract: the mesh is laid out, walked and its folds listed, and what stands in memory then is the last mesh of the input.
+-- Assumes nothing.
+use Rattle.walking.proofs.FitLaws.{few-fits}
+use mathlib.Core.Path.{◌≡◌, ◌∙◌}
+use borrow.Author.Rules.{rules}
+use Rattle.meaning.specs.Input.{Input}
+use Rattle.meaning.specs.Outcome.{target_of}
+use Rattle.walking.specs.Clauses.{input_walked}
+use Rattle.walking.proofs.WalkedLaws.{walk-asked, folds_few, mesh-walked}
+use Rattle.walking.proofs.walked.Goals as goal
+use Rattle.walking.proofs.walked.Goals.{After-laid_out-fixed}
+
+-- the target is document 01's
+aim : (c : After-laid_out-fixed) → c.target-target.result ≡ target_of ((input_walked c.args.points.now c.args.faces.now c.args.margin.now c.args.options))
+unfolding target_of
+aim c = c.target-target.ensures
+
+pub bounds_of-bounds-requires : goal.bounds_of-bounds-requires
+bounds_of-bounds-requires c = c.requires.fact_2
+
+pub overflow_cast-f : goal.overflow_cast-f
+overflow_cast-f c = few-fits c.requires.fact_1.working.u32s.faces_few
+
+pub laid_out-fixed-requires : goal.laid_out-fixed-requires
+laid_out-fixed-requires c = c.requires.fact_1
+
+pub walk_by-walked-requires : goal.walk_by-walked-requires
+walk_by-walked-requires c =
+    walk-asked c.requires.fact_1.working c.laid_out-fixed.ensures
+
+pub list_folds-requires : goal.list_folds-requires
+list_folds-requires c =
+    let walked = rw c.bounds_of-bounds.ensures at c.walk_by-walked.ensures in
+    record { fact_1 = walked.done.tidy.room; fact_2 = folds_few ((input_walked c.args.points.now c.args.faces.now c.args.margin.now c.args.options)) (aim (goal.at.list_folds-requires c).After-laid_out-fixed) c.laid_out-fixed.ensures walked }
+
+pub shape_of-w : goal.shape_of-w
+shape_of-w c = c.w-2-1.given ∙ c.w-1.given
+
+pub shape_of-p : goal.shape_of-p
+shape_of-p c = c.p-2-1.given ∙ c.p-1.given
+
+pub shape_of-q : goal.shape_of-q
+shape_of-q c = c.q-2-1.given ∙ c.q-1.given
+
+pub shape_of-folds : goal.shape_of-folds
+shape_of-folds c = c.folds-1.given
+
+pub returns : goal.returns
+returns c =
+    mesh-walked ((input_walked c.args.points.now c.args.faces.now c.args.margin.now c.args.options)) (aim (goal.at.returns c).After-laid_out-fixed) c.laid_out-fixed.ensures (rw c.bounds_of-bounds.ensures at c.walk_by-walked.ensures) c.args.folds.now c.list_folds.ensures
