@@ -50,7 +50,9 @@ pattern-few z q h k = omega arith
 
 pub pattern-of : (x : Float) → T (fits binary32 x) → NotBelow x → finite x ≡ true → Pattern x (to_bits binary32 x)
 unfolding to_bits
+pattern-of nan held plus fine = elim plus [ ]
 pattern-of (inf s) held plus fine = absurd (false≢true fine)
+pattern-of (fin true m e) held plus fine = elim plus [ ]
 pattern-of (fin false m e) held plus fine =
     let n = m * up e * 2 ^ 149 / down e in
     record {

@@ -3,6 +3,7 @@
 use Rattle.std.proofs.Common.{◌+◌, ◌-◌, inl, inr, ⊎_elim, rules}
 use Rattle.bits.proofs.SignedExponent.{kept, is_below, not-below, is-from, not-from}
 use Rattle.bits.proofs.narrow.narrow_bits.Goals as goal
+use Rattle.bits.proofs.narrow.narrow_bits.Goals.{else-exponent-geminus126-via-then-exponent-geminus126+else-exponent-lt128, else-exponent-geminus126-via-else-exponent-geminus126}
 
 pub narrow_normal-requires : goal.narrow_normal-requires
 narrow_normal-requires c =
@@ -10,4 +11,7 @@ narrow_normal-requires c =
 
 pub narrow_outside-requires : goal.narrow_outside-requires
 narrow_outside-requires c =
-    (⊎_elim (λ w. inr (not-below c.args.b c.exponent_of-exponent.result c.exponent_of-exponent.ensures (1023 + 128) w.1.left)) (λ w. inl (not-from c.args.b c.exponent_of-exponent.result c.exponent_of-exponent.ensures (1023 - 126) w.left)) c.else-exponent-geminus126.branch, kept c.args.b c.exponent_of-exponent.result c.exponent_of-exponent.ensures)
+    (elim c.else-exponent-geminus126.branch [
+       else-exponent-geminus126-via-then-exponent-geminus126+else-exponent-lt128 w ↦ inr (not-below c.args.b c.exponent_of-exponent.result c.exponent_of-exponent.ensures (1023 + 128) w.if-exponent-lt128.false)
+     | else-exponent-geminus126-via-else-exponent-geminus126 w ↦ inl (not-from c.args.b c.exponent_of-exponent.result c.exponent_of-exponent.ensures (1023 - 126) w.if-exponent-geminus126.false)
+     ], kept c.args.b c.exponent_of-exponent.result c.exponent_of-exponent.ensures)

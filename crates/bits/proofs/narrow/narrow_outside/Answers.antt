@@ -5,16 +5,16 @@ use Rattle.bits.specs.Clauses.{field}
 use Rattle.bits.proofs.NarrowLaws.{zero_is, nan_is, infinity-is}
 use Rattle.bits.proofs.SignedExponent.{kept, is_below, not-below, is-from, not-from}
 use Rattle.bits.proofs.narrow.narrow_outside.Goals as goal
-use Rattle.bits.proofs.narrow.narrow_outside.Goals.{Then-exponent-lt0}
+use Rattle.bits.proofs.narrow.narrow_outside.Goals.{Then-exponent-lt0, else-exponent-geminus150-via-then-exponent-geminus150+else-exponent-ltminus126, else-exponent-geminus150-via-else-exponent-geminus150}
 
 -- a negative exponent that is not subnormal lies below -150
 tiny : (c : Then-exponent-lt0) → field c.args.b < 1023 - 150
 tiny c =
     let below : field c.args.b < 1023 = is_below c.args.b c.args.exponent c.requires.1 1023 c.if-exponent-lt0.true in
-    ⊎_elim
-    (λ w. ⊎_elim (λ l. omega (arith, not-below c.args.b c.args.exponent c.requires.1 (1023 - 126) w.1.left)) (λ l. omega arith) c.requires.0)
-    (λ w. not-from c.args.b c.args.exponent c.requires.1 (1023 - 150) w.left)
-    c.else-exponent-geminus150.branch
+    elim c.else-exponent-geminus150.branch [
+      else-exponent-geminus150-via-then-exponent-geminus150+else-exponent-ltminus126 w ↦ ⊎_elim (λ l. omega (arith, not-below c.args.b c.args.exponent c.requires.1 (1023 - 126) w.if-exponent-ltminus126.false)) (λ l. omega arith) c.requires.0
+    | else-exponent-geminus150-via-else-exponent-geminus150 w ↦ not-from c.args.b c.args.exponent c.requires.1 (1023 - 150) w.if-exponent-geminus150.false
+    ]
 
 pub narrow_subnormal-requires : goal.narrow_subnormal-requires
 narrow_subnormal-requires c =

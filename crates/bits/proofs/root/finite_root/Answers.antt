@@ -5,11 +5,15 @@ use Rattle.bits.specs.Clauses.{Raised}
 use Rattle.bits.proofs.RootLaws.{root-of-zero, nearest-is-root}
 use Rattle.bits.proofs.RootScaled.{raised-normal}
 use Rattle.bits.proofs.root.finite_root.Goals as goal
-use Rattle.bits.proofs.root.finite_root.Goals.{Joined-b-lt8388608}
+use Rattle.bits.proofs.root.finite_root.Goals.{Joined-b-lt8388608, then-b-lt8388608+else-b-eq0, else-b-lt8388608}
 
 -- by either way the pattern is raised
 raised : (c : Joined-b-lt8388608) → (c.if-b-lt8388608.x < 0xc000_0000) × Raised c.args.b c.if-b-lt8388608.x
-raised c = ⊎_elim (λ w. rw w.3 w.2.ensures) (λ w. rw w.1 (omega arith, raised-normal c.args.b (omega arith))) c.if-b-lt8388608.branch
+raised c =
+    elim c.if-b-lt8388608.branch [
+      then-b-lt8388608+else-b-eq0 w ↦ rw w.x-is w.raised_low-x.ensures
+    | else-b-lt8388608 w ↦ rw w.x-is (omega arith, raised-normal c.args.b (omega arith))
+    ]
 
 pub returns-then-b-eq0 : goal.returns-then-b-eq0
 returns-then-b-eq0 c = sym (ap finite_root c.if-b-eq0.true ∙ root-of-zero)
