@@ -86,7 +86,7 @@ module _ {D : Type 0} (rules : Rules D) (m : Mesh D) where
   unfolding least every some
   least-is p [] =
       record { member = or_inl (same_pair p p) false (same_self p); lowest = and_intro (le-leb _ _ (le_refl (order rules m p))) refl }
-  least-is p (q ∷ qs) = least_step (ltb (order rules m q) (order rules m p)) _ p q qs refl (least-is _ qs)
+  least-is p (q ∷ qs) = least_step (ltb (order rules m q) (order rules m p)) _ p q qs refl (least-is (cond (ltb (order rules m q) (order rules m p)) q p) qs)
 
   -- and there is no other
   pub least-unique : {q r : Pair} {ps : List Pair} → every fitting ps ≡ true → IsLeast q ps → IsLeast r ps → q ≡ r

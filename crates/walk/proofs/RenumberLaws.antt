@@ -22,12 +22,12 @@ pub used-keeps : (P : List ℕ → Type 0) → ((seen : List ℕ) (x : ℕ) → 
     (seen : List ℕ) (fs : List Face) → P seen → P (used seen fs)
 unfolding used
 used-keeps P keep seen [] h = h
-used-keeps P keep seen (f ∷ fs) h = used-keeps P keep _ fs (keep _ f.c (keep _ f.b (keep _ f.a h)))
+used-keeps P keep seen (f ∷ fs) h = used-keeps P keep (noted (noted (noted seen f.a) f.b) f.c) fs (keep _ f.c (keep _ f.b (keep _ f.a h)))
 
 pub used-append : (seen : List ℕ) (fs gs : List Face) → used seen (fs ++ gs) ≡ used (used seen fs) gs
 unfolding used
 used-append seen [] gs = refl
-used-append seen (f ∷ fs) gs = used-append _ fs gs
+used-append seen (f ∷ fs) gs = used-append (noted (noted (noted seen f.a) f.b) f.c) fs gs
 
 -- it grows at its end only
 pub used_grows : (seen : List ℕ) (fs : List Face) → (rest : List ℕ) × (used seen fs ≡ seen ++ rest)

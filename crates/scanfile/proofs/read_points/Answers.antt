@@ -11,7 +11,7 @@ loop-i-init c = start _ _ _ _ _
 
 pub loop-i-preserved : goal.loop-i-preserved
 loop-i-preserved c =
-    turn _ _ _ _ _ c.loop-i.out c.loop-i.i _ c.loop-i.invariant (omega arith) (omega arith) c.Float-at.ensures
+    turn _ _ _ _ _ c.loop-i.out c.loop-i.i _ c.loop-i.invariant (omega arith) (omega arith) c.float_at.ensures
 
 pub returns : goal.returns
 returns c = done _ _ _ _ _ c.loop-i.out c.loop-i.i c.loop-i.invariant (omega arith)

@@ -18,12 +18,12 @@ pub returns-then-live_at-eq1 : goal.returns-then-live_at-eq1
 unfolding relisted
 returns-then-live_at-eq1 c =
     let alive : lives c.args.f c.args.w.now c.args.k ≡ true =
-    eq-eqb _ _ (sym c.Live-at.ensures ∙ c.if-live_at-eq1.true) in
+    eq-eqb _ _ (sym c.live_at.ensures ∙ c.if-live_at-eq1.true) in
     c.move_corner.ensures ∙ rw (alive, c.corner_of-c.ensures)
 
 pub returns-else-live_at-eq1 : goal.returns-else-live_at-eq1
 unfolding relisted
 returns-else-live_at-eq1 c =
     let dead : lives c.args.f c.args.w.now c.args.k ≡ false =
-    ne_eqb _ _ (λ e. c.if-live_at-eq1.false (c.Live-at.ensures ∙ e)) in
+    ne_eqb _ _ (λ e. c.if-live_at-eq1.false (c.live_at.ensures ∙ e)) in
     rw dead

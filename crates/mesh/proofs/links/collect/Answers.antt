@@ -16,7 +16,7 @@ room-left : (c : Then-live_at-eq1) →
     c.loop-link.n < c.args.f
 room-left c =
     some-room (omega arith) c.loop-link-test.taken c.loop-link.inv
-    c.next_at-link.ensures c.Live-at.ensures c.if-live_at-eq1.true
+    c.next_at-link.ensures c.live_at.ensures c.if-live_at-eq1.true
 
 pub loop-link-init : goal.loop-link-init
 loop-link-init c = start _ c.first_at-link.ensures c.requires.fact_1 c.requires.fact_2
@@ -48,7 +48,7 @@ loop-link-smaller-then-live_at-eq1 c = less (omega arith) c.loop-link-test.taken
 pub loop-link-preserved-then-live_at-eq1 : goal.loop-link-preserved-then-live_at-eq1
 loop-link-preserved-then-live_at-eq1 c =
     noted (omega arith) c.loop-link-test.taken c.loop-link.inv
-    c.next_at-link.ensures c.Live-at.ensures c.if-live_at-eq1.true (omega arith)
+    c.next_at-link.ensures c.live_at.ensures c.if-live_at-eq1.true (omega arith)
 
 pub loop-link-smaller : goal.loop-link-smaller
 loop-link-smaller c = less (omega arith) c.loop-link-test.taken c.loop-link.inv c.next_at-link.ensures
@@ -56,7 +56,7 @@ loop-link-smaller c = less (omega arith) c.loop-link-test.taken c.loop-link.inv 
 pub loop-link-preserved : goal.loop-link-preserved
 loop-link-preserved c =
     passed (omega arith) c.loop-link-test.taken c.loop-link.inv
-    c.next_at-link.ensures c.Live-at.ensures c.if-live_at-eq1.false
+    c.next_at-link.ensures c.live_at.ensures c.if-live_at-eq1.false
 
 pub returns : goal.returns
 returns c = collected (omega arith) c.loop-link-test.false c.loop-link.invariant

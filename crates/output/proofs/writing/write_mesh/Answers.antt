@@ -33,21 +33,21 @@ overflow_add-k c = omega (arith, c.loop-k-test.true)
 pub write_face-counts-requires : goal.write_face-counts-requires
 write_face-counts-requires c =
     let t = reading (goal.at.write_face-counts-requires c).After-face_in-face in
-    record { fact_1 = turn-room t; fact_2 = turn-proper t (within (goal.at.write_face-counts-requires c).After-face_in-face) _ c.Live-at.ensures c.if-live-eq1.true _ c.face_in-face.ensures; fact_3 = c.requires.fact_2; fact_4 = turn-fits t (within (goal.at.write_face-counts-requires c).After-face_in-face) _ c.Live-at.ensures c.if-live-eq1.true _ c.face_in-face.ensures; fact_5 = turn-known t }
+    record { fact_1 = turn-room t; fact_2 = turn-proper t (within (goal.at.write_face-counts-requires c).After-face_in-face) _ c.live_at-live.ensures c.if-live-eq1.true _ c.face_in-face.ensures; fact_3 = c.requires.fact_2; fact_4 = turn-fits t (within (goal.at.write_face-counts-requires c).After-face_in-face) _ c.live_at-live.ensures c.if-live-eq1.true _ c.face_in-face.ensures; fact_5 = turn-known t }
 
 pub loop-k-smaller-then-live-eq1 : goal.loop-k-smaller-then-live-eq1
 loop-k-smaller-then-live-eq1 c = omega (arith, within (goal.at.loop-k-smaller-then-live-eq1 c).After-face_in-face)
 
 pub loop-k-preserved-then-live-eq1 : goal.loop-k-preserved-then-live-eq1
 loop-k-preserved-then-live-eq1 c =
-    turn-live (reading (goal.at.loop-k-preserved-then-live-eq1 c).After-face_in-face) (within (goal.at.loop-k-preserved-then-live-eq1 c).After-face_in-face) _ c.Live-at.ensures c.if-live-eq1.true _
+    turn-live (reading (goal.at.loop-k-preserved-then-live-eq1 c).After-face_in-face) (within (goal.at.loop-k-preserved-then-live-eq1 c).After-face_in-face) _ c.live_at-live.ensures c.if-live-eq1.true _
     c.face_in-face.ensures c.write_face-counts.ensures
 
 pub loop-k-smaller : goal.loop-k-smaller
 loop-k-smaller c = omega (arith, within (goal.at.loop-k-smaller c).After-face_in-face)
 
 pub loop-k-preserved : goal.loop-k-preserved
-loop-k-preserved c = turn-dead (reading (goal.at.loop-k-preserved c).After-face_in-face) (within (goal.at.loop-k-preserved c).After-face_in-face) _ c.Live-at.ensures c.if-live-eq1.false
+loop-k-preserved c = turn-dead (reading (goal.at.loop-k-preserved c).After-face_in-face) (within (goal.at.loop-k-preserved c).After-face_in-face) _ c.live_at-live.ensures c.if-live-eq1.false
 
 pub shape_of-w : goal.shape_of-w
 shape_of-w c = c.loop-k.invariant.but.same_length

@@ -10,7 +10,7 @@ determinant-det-requires c = tt
 
 pub returns-then-det : goal.returns-then-det
 unfolding inverse
-returns-then-det c = rw (rw (c.determinant-det.ensures, c.Block-of.ensures) at c.if-det.true)
+returns-then-det c = rw (rw (c.determinant-det.ensures, c.block_of-m.ensures) at c.if-det.true)
 
 pub first_row-requires : goal.first_row-requires
 first_row-requires c = tt
@@ -25,10 +25,10 @@ pub returns : goal.returns
 unfolding inverse
 returns c =
     rw (
-      rw (c.determinant-det.ensures, c.Block-of.ensures) at c.if-det.false,
+      rw (c.determinant-det.ensures, c.block_of-m.ensures) at c.if-det.false,
       c.third_row.ensures,
       c.second_row.ensures,
       c.first_row.ensures,
       c.determinant-det.ensures,
-      c.Block-of.ensures,
+      c.block_of-m.ensures,
     )
