@@ -42,16 +42,16 @@ pub kill-gone-requires : goal.kill-gone-requires
 kill-gone-requires c = record { fact_1 = gathered-inside c.requires.fact_3; fact_2 = (omega arith, omega arith) }
 
 pub relist-requires : goal.relist-requires
-relist-requires c =
-    may-relist c.pre.0.room c.pre.1.0.0 c.pre.1.1.0 (both-dropped (goal.at.relist-requires c).After-set_first-2).but (near-stands (goal.at.relist-requires c).Start).0 (near-stands (goal.at.relist-requires c).Start).1
+relist-requires c = let held = may-relist c.requires.fact_1.room c.requires.fact_2.0 c.requires.fact_3 (both-dropped (goal.at.relist-requires c).After-set_first-2).but (near-stands (goal.at.relist-requires c).Start).0 (near-stands (goal.at.relist-requires c).Start).1 in
+    record { fact_1 = held.0; fact_2 = held.1 }
 
 pub relist-requires-2 : goal.relist-requires-2
-relist-requires-2 c =
-    may-relist c.pre.0.room c.pre.1.0.0 c.pre.1.1.1.0
-    (but-then (both-dropped (goal.at.relist-requires-2 c).After-set_first-2).but (near-listed (goal.at.relist-requires-2 c).After-relist).but) (far-stands (goal.at.relist-requires-2 c).Start).0 (far-stands (goal.at.relist-requires-2 c).Start).1
+relist-requires-2 c = let held = may-relist c.requires.fact_1.room c.requires.fact_2.0 c.requires.fact_4
+    (but-then (both-dropped (goal.at.relist-requires-2 c).After-set_first-2).but (near-listed (goal.at.relist-requires-2 c).After-relist).but) (far-stands (goal.at.relist-requires-2 c).Start).0 (far-stands (goal.at.relist-requires-2 c).Start).1 in
+    record { fact_1 = held.0; fact_2 = held.1 }
 
 pub returns : goal.returns
 returns c =
-    folded c.pre.0 c.pre.1.0.0 c.pre.1.0.2 (both-dropped (goal.at.returns c).After-set_first-2) (near-listed (goal.at.returns c).After-relist)
-    (far-again c.pre.0 c.pre.1.0.0 (both-dropped (goal.at.returns c).After-set_first-2) c.pre.1.1.1.0 (far-stands (goal.at.returns c).Start).0 (near-listed (goal.at.returns c).After-relist) c.relist-2.ensures)
-    c.pre.1.1.0 c.kill-gone.ensures.1
+    folded c.requires.fact_1 c.requires.fact_2.0 c.requires.fact_2.2 (both-dropped (goal.at.returns c).After-set_first-2) (near-listed (goal.at.returns c).After-relist)
+    (far-again c.requires.fact_1 c.requires.fact_2.0 (both-dropped (goal.at.returns c).After-set_first-2) c.requires.fact_4 (far-stands (goal.at.returns c).Start).0 (near-listed (goal.at.returns c).After-relist) c.relist-2.ensures)
+    c.requires.fact_3 c.kill-gone.ensures.1

@@ -11,33 +11,33 @@ gather-ring-requires c = record { fact_1 = c.requires.fact_1; fact_2 = (c.requir
 
 pub tested-requires : goal.tested-requires
 tested-requires c =
-    let around = listed-around c.args.fold c.pre.0 c.pre.1.0 c.gather-ring.ensures in
-    record { fact_1 = listed-tidy c.args.fold c.pre.0 c.pre.1.0 c.gather-ring.ensures; fact_2 = c.pre.1.1.0; fact_3 = around.0; fact_4 = around.1 }
+    let around = listed-around c.args.fold c.requires.fact_1 c.requires.fact_2 c.gather-ring.ensures in
+    record { fact_1 = listed-tidy c.args.fold c.requires.fact_1 c.requires.fact_2 c.gather-ring.ensures; fact_2 = c.requires.fact_3.0; fact_3 = around.0; fact_4 = around.1 }
 
 pub fold_mesh-gone-requires : goal.fold_mesh-gone-requires
-fold_mesh-gone-requires c =
-    rw c.tested.ensures.w_unchanged (
-      listed-tidy c.args.fold c.pre.0 c.pre.1.0 c.gather-ring.ensures,
+fold_mesh-gone-requires c = let held = rw c.tested.ensures.w_unchanged (
+  listed-tidy c.args.fold c.requires.fact_1 c.requires.fact_2 c.gather-ring.ensures,
+  (
+    c.requires.fact_2,
+    (
+      c.gather-ring.ensures.ringed.around_keep,
       (
-        c.pre.1.0,
+        c.gather-ring.ensures.ringed.around_remove,
         (
-          c.gather-ring.ensures.ringed.around_keep,
-          (
-            c.gather-ring.ensures.ringed.around_remove,
-            (
-              (c.gather-ring.ensures.ringed.past_pairs, c.gather-ring.ensures.ringed.one_after_other, c.gather-ring.ensures.ringed.within, c.pre.1.1.0, c.pre.1.1.1),
-              c.sum-sum.ensures ∙ ap₂ quadric_sum c.quadric_at.ensures c.quadric_at-2.ensures,
-            ),
-          ),
+          (c.gather-ring.ensures.ringed.past_pairs, c.gather-ring.ensures.ringed.one_after_other, c.gather-ring.ensures.ringed.within, c.requires.fact_3.0, c.requires.fact_3.1),
+          c.sum-sum.ensures ∙ ap₂ quadric_sum c.quadric_at.ensures c.quadric_at-2.ensures,
         ),
       ),
-    )
+    ),
+  ),
+) in
+    record { tidy_1 = held.0; tidy_2 = held.1.0; tidy_3 = held.1.1.0; tidy_4 = held.1.1.1.0; tidy_5 = held.1.1.1.1.0; sum_value = held.1.1.1.1.1 }
 
 pub returns-in-Allowed : goal.returns-in-Allowed
 returns-in-Allowed c = λ limit bound there.
-    fold-made c.args.fold c.pre.0 c.pre.1.0 c.gather-ring.ensures c.args.p.now c.args.q.now limit bound there c.tested.ensures.value c.in-Allowed.is
+    fold-made c.args.fold c.requires.fact_1 c.requires.fact_2 c.gather-ring.ensures c.args.p.now c.args.q.now limit bound there c.tested.ensures.value c.in-Allowed.is
     (rw c.tested.ensures.w_unchanged (goal.at.returns-in-Allowed c).After-tested c.fold_mesh-gone.ensures)
 
 pub returns-in-Not : goal.returns-in-Not
 returns-in-Not c = λ limit bound there.
-    fold-refused c.args.fold c.pre.0 c.pre.1.0 c.gather-ring.ensures c.args.p.now c.args.q.now limit bound there c.tested.ensures.value c.in-Not.is c.tested.ensures.w_unchanged
+    fold-refused c.args.fold c.requires.fact_1 c.requires.fact_2 c.gather-ring.ensures c.args.p.now c.args.q.now limit bound there c.tested.ensures.value c.in-Not.is c.tested.ensures.w_unchanged

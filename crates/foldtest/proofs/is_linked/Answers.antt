@@ -7,14 +7,16 @@ use Rattle.foldtest.proofs.LinkLaws.{not-linked, link-decided}
 use Rattle.foldtest.proofs.is_linked.Goals as goal
 
 pub shared_count-shared-requires : goal.shared_count-shared-requires
-shared_count-shared-requires c = may-count c.requires.fact_1 c.requires.fact_2
+shared_count-shared-requires c = let held = may-count c.requires.fact_1 c.requires.fact_2 in
+    record { f_in_bounds_1 = held.0; f_in_bounds_2 = held.1.0; n_value = held.1.1 }
 
 pub returns-then-shared-lt1 : goal.returns-then-shared-lt1
 returns-then-shared-lt1 c =
     record { value = not-linked c.args.fold.remove c.requires.fact_2.gathered c.shared_count-shared.ensures c.if-shared-lt1.true; w_unchanged = refl }
 
 pub common_count-requires : goal.common_count-requires
-common_count-requires c = c.requires
+common_count-requires c = let held = c.requires in
+    record { fact_1 = held.0; fact_2 = held.1.0; fact_3 = held.1.1 }
 
 pub returns : goal.returns
 returns c =

@@ -7,7 +7,8 @@ pub returns-then-lowest-k : goal.returns-then-lowest-k
 returns-then-lowest-k c = rw (le-ltb c.args.k c.args.lowest c.if-lowest-k.true)
 
 pub is_harmed-requires : goal.is_harmed-requires
-is_harmed-requires c = c.requires
+is_harmed-requires c = let held = c.requires in
+    record { fact_1 = held.0; fact_2 = held.1.0; fact_3 = held.1.1.0; fact_4 = held.1.1.1 }
 
 pub returns-then-is_harmed : goal.returns-then-is_harmed
 returns-then-is_harmed c = rw (lt-ltb _ _ c.if-lowest-k.false, ← c.is_harmed.ensures, c.if-is_harmed.true)

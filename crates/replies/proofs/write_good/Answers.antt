@@ -18,17 +18,17 @@ good : (c : Start) → GoodFile c.args.bytes.now c.args.head
 good c = good-file _ _ c.requires.fact_2
 
 -- ---- its points are all there, its faces and its margin
-points_there : (c : After-read_points) → 3 * c.args.head.points ≤ length c.read_points.new.out.1.1.0
+points_there : (c : After-read_points) → 3 * c.args.head.points ≤ length c.read_points.new.out
 points_there c =
     over-there (points_of c.args.bytes.now c.args.head.points) c.point_cells-points.result (3 * c.args.head.points)
     (points-length c.args.bytes.now c.args.head.points) c.read_points.ensures
 
-faces_there : (c : After-read_faces) → 3 * c.args.head.faces ≤ length c.read_faces.new.out.1.1.1.0
+faces_there : (c : After-read_faces) → 3 * c.args.head.faces ≤ length c.read_faces.new.out
 faces_there c =
     over-there (face_numbers_of c.args.bytes.now c.args.head.points c.args.head.faces) c.face_cells-faces.result (3 * c.args.head.faces)
     (faces-length c.args.bytes.now c.args.head.points c.args.head.faces) c.read_faces.ensures
 
-all_there : (c : After-read_margin) → c.args.head.margin ≤ length c.read_margin.new.out.1.1.1.1.0
+all_there : (c : After-read_margin) → c.args.head.margin ≤ length c.read_margin.new.out
 all_there c =
     over-there (margin_of c.args.bytes.now c.args.head.points c.args.head.faces c.args.head.margin) c.margin_cells-margin.result c.args.head.margin
     (margin-length c.args.bytes.now c.args.head.points c.args.head.faces c.args.head.margin) c.read_margin.ensures
@@ -71,7 +71,7 @@ slice_bounds-write_thinned-end-3 c = sym (length-take-le _ _ (all_there (goal.at
 
 pub write_thinned-requires : goal.write_thinned-requires
 write_thinned-requires c =
-    c.pre.0
+    c.requires.fact_1
 
 pub returns : goal.returns
 unfolding reply_by

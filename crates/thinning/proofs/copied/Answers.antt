@@ -8,10 +8,10 @@ pub clear-requires : goal.clear-requires
 clear-requires c = c.requires.working
 
 pub overflow_cast-result : goal.overflow_cast-result
-overflow_cast-result c = points_fit c.pre.working.u32s.points_few
+overflow_cast-result c = points_fit c.requires.working.u32s.points_few
 
 pub overflow_cast-result-2 : goal.overflow_cast-result-2
-overflow_cast-result-2 c = few-fits c.pre.working.u32s.faces_few
+overflow_cast-result-2 c = few-fits c.requires.working.u32s.faces_few
 
 pub shape_of-out_points : goal.shape_of-out_points
 shape_of-out_points c = c.out_points-1.given

@@ -5,8 +5,8 @@ use Rattle.walking.proofs.WalkedLaws.{plain-room, by-plain, by-heap}
 use Rattle.walking.proofs.walk_by.Goals as goal
 
 pub plain_walk-requires : goal.plain_walk-requires
-plain_walk-requires c =
-    (c.requires.tidy, (c.requires.all_live, plain-room c.requires))
+plain_walk-requires c = let held = (c.requires.tidy, (c.requires.all_live, plain-room c.requires)) in
+    record { fact_1 = held.0; fact_2 = held.1.0; fact_3 = held.1.1.0; fact_4 = held.1.1.1 }
 
 pub heap_walk-requires : goal.heap_walk-requires
 heap_walk-requires c =

@@ -21,8 +21,8 @@ inside c = turn_inside (omega arith) c.slot_at-k.ensures c.loop-i.invariant.0 (o
 counted : (c : After-slice_known-in-loop-i-1) →
     Tally (λ k. holds c.args.x (face_at c.args.w.now k)) c.args.w.now c.args.list (c.loop-i.i + 1) (c.loop-i.gone + c.kill_face-gone.result)
 counted c =
-    tally-more c.loop-i.inv.1 (turn-slot (omega arith) c.slot_at-k.ensures c.loop-i.inv.0)
-    (ap (holds c.args.x) (face-flags c.loop-i.inv.0.but c.slot_at-k.result (inside c.before.before.before.before)))
+    tally-more c.loop-i.invariant.1 (turn-slot (omega arith) c.slot_at-k.ensures c.loop-i.invariant.0)
+    (ap (holds c.args.x) (face-flags c.loop-i.invariant.0.but c.slot_at-k.result (inside c.before.before.before.before)))
     (ap (λ (m : ℕ). c.loop-i.gone + m) c.kill_face-gone.ensures.1)
 
 pub loop-i-init : goal.loop-i-init
@@ -37,7 +37,7 @@ overflow_add-gone c = omega (arith, tally-few (counted (goal.at.overflow_add-gon
 
 pub loop-i-preserved : goal.loop-i-preserved
 loop-i-preserved c =
-    (turn-next (omega arith) c.slot_at-k.ensures c.loop-i.inv.0 (omega arith) (rw c.kill_face-gone.ensures.0 (killed-but _ _ _ _ (inside (goal.at.loop-i-preserved c).After-slot_at-k))) c.kill_face-gone.ensures.0, counted (goal.at.loop-i-preserved c).After-slice_known-in-loop-i-1)
+    (turn-next (omega arith) c.slot_at-k.ensures c.loop-i.invariant.0 (omega arith) (rw c.kill_face-gone.ensures.0 (killed-but _ _ _ _ (inside (goal.at.loop-i-preserved c).After-slot_at-k))) c.kill_face-gone.ensures.0, counted (goal.at.loop-i-preserved c).After-slice_known-in-loop-i-1)
 
 pub returns : goal.returns
 returns c =

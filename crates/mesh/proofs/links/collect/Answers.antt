@@ -15,17 +15,17 @@ corner-inside c = inside (omega arith) c.loop-link-test.true c.loop-link.invaria
 room-left : (c : Then-live_at-eq1) →
     c.loop-link.n < c.args.f
 room-left c =
-    some-room (omega arith) c.loop-link-test.taken c.loop-link.inv
+    some-room (omega arith) c.loop-link-test.true c.loop-link.invariant
     c.next_at-link.ensures c.live_at.ensures c.if-live_at-eq1.true
 
 pub loop-link-init : goal.loop-link-init
 loop-link-init c = start _ c.first_at-link.ensures c.requires.fact_1 c.requires.fact_2
 
 pub next_at-link-requires : goal.next_at-link-requires
-next_at-link-requires c = omega (arith, corner-inside (goal.at.next_at-link-requires c).At-loop-link)
+next_at-link-requires c = omega (arith, corner-inside (goal.at.next_at-link-requires c).In-loop-link)
 
 pub live_at-requires : goal.live_at-requires
-live_at-requires c = omega (arith, corner-inside (goal.at.live_at-requires c).After-first_at-link)
+live_at-requires c = omega (arith, corner-inside (goal.at.live_at-requires c).In-loop-link)
 
 pub overflow_cast-w : goal.overflow_cast-w
 overflow_cast-w c = omega (arith, corner-inside (goal.at.overflow_cast-w c).In-loop-link)
@@ -43,19 +43,19 @@ pub overflow_add-n : goal.overflow_add-n
 overflow_add-n c = omega (arith, room-left (goal.at.overflow_add-n c).Then-live_at-eq1)
 
 pub loop-link-smaller-then-live_at-eq1 : goal.loop-link-smaller-then-live_at-eq1
-loop-link-smaller-then-live_at-eq1 c = less (omega arith) c.loop-link-test.taken c.loop-link.inv c.next_at-link.ensures
+loop-link-smaller-then-live_at-eq1 c = less (omega arith) c.loop-link-test.true c.loop-link.invariant c.next_at-link.ensures
 
 pub loop-link-preserved-then-live_at-eq1 : goal.loop-link-preserved-then-live_at-eq1
 loop-link-preserved-then-live_at-eq1 c =
-    noted (omega arith) c.loop-link-test.taken c.loop-link.inv
+    noted (omega arith) c.loop-link-test.true c.loop-link.invariant
     c.next_at-link.ensures c.live_at.ensures c.if-live_at-eq1.true (omega arith)
 
 pub loop-link-smaller : goal.loop-link-smaller
-loop-link-smaller c = less (omega arith) c.loop-link-test.taken c.loop-link.inv c.next_at-link.ensures
+loop-link-smaller c = less (omega arith) c.loop-link-test.true c.loop-link.invariant c.next_at-link.ensures
 
 pub loop-link-preserved : goal.loop-link-preserved
 loop-link-preserved c =
-    passed (omega arith) c.loop-link-test.taken c.loop-link.inv
+    passed (omega arith) c.loop-link-test.true c.loop-link.invariant
     c.next_at-link.ensures c.live_at.ensures c.if-live_at-eq1.false
 
 pub returns : goal.returns

@@ -12,23 +12,25 @@ use Rattle.mesh.proofs.quadrics.lay_quadrics.Goals.{After-face_in-face}
 -- the face that was read has its points among the v
 face-corners : (c : After-face_in-face) → Corners c.args.v c.face_in-face.result
 face-corners c =
-    corners _ _ (rw c.face_in-face.ensures (c.pre.1.0 c.loop-k.k c.loop-k-test.true))
+    corners _ _ (rw c.face_in-face.ensures (c.requires.fact_2 c.loop-k.k c.loop-k-test.true))
 
 pub loop-k-init : goal.loop-k-init
 loop-k-init c =
     (omega arith, quadrics-start c.args.w.now c.args.p.now c.start_quadrics.ensures)
 
 pub face_quadric-requires : goal.face_quadric-requires
-face_quadric-requires c = let k = face-corners (goal.at.face_quadric-requires c).After-face_in-face in omega arith
+face_quadric-requires c = let held = let k = face-corners (goal.at.face_quadric-requires c).After-face_in-face in omega arith in
+    record { fact_1 = held.0; fact_2 = held.1.0; fact_3 = held.1.1 }
 
 pub add_face-requires : goal.add_face-requires
-add_face-requires c = let k = face-corners (goal.at.add_face-requires c).After-face_in-face in omega arith
+add_face-requires c = let held = let k = face-corners (goal.at.add_face-requires c).After-face_in-face in omega arith in
+    record { fact_1 = held.0; fact_2 = held.1.0; fact_3 = held.1.1 }
 
 pub loop-k-preserved : goal.loop-k-preserved
 loop-k-preserved c = (
   omega arith,
   quadrics-turn c.args.w.now c.args.p.now c.loop-k.k
-      (c.pre.1.0 c.loop-k.k c.loop-k-test.true)
+      (c.requires.fact_2 c.loop-k.k c.loop-k-test.true)
       (omega arith) c.loop-k.invariant.1 c.face_in-face.ensures c.face_quadric.ensures c.add_face.ensures,
 )
 

@@ -12,7 +12,7 @@ use Rattle.openpairs.proofs.opening.open_listed.Goals.{Then-is_eligible}
 place : (c : Then-is_eligible) →
     c.loop-i.now-open < 3 * c.args.f
 place c =
-    opening-place c.loop-i.inv.1 c.pre c.loop-i-test.taken c.around_at-y.ensures
+    opening-place c.loop-i.invariant.1 c.requires c.loop-i-test.true c.around_at-y.ensures
     (sym c.is_eligible.ensures ∙ c.if-is_eligible.true)
 
 pub loop-i-init : goal.loop-i-init
@@ -28,7 +28,7 @@ is_eligible-requires c =
 
 pub set_pair-requires : goal.set_pair-requires
 set_pair-requires c =
-    (place (goal.at.set_pair-requires c).Then-is_eligible, opening-room c.loop-i.inv.1 c.pre c.loop-i-test.taken)
+    (place (goal.at.set_pair-requires c).Then-is_eligible, opening-room c.loop-i.invariant.1 c.requires c.loop-i-test.true)
 
 pub overflow_add-now_open : goal.overflow_add-now_open
 overflow_add-now_open c =
@@ -38,14 +38,14 @@ overflow_add-now_open c =
 pub loop-i-preserved-then-is_eligible : goal.loop-i-preserved-then-is_eligible
 loop-i-preserved-then-is_eligible c = (
   search rules,
-  opening-pair c.loop-i.inv.1 c.pre c.loop-i-test.taken c.around_at-y.ensures
+  opening-pair c.loop-i.invariant.1 c.requires c.loop-i-test.true c.around_at-y.ensures
       (sym c.is_eligible.ensures ∙ c.if-is_eligible.true) c.set_pair.ensures,
 )
 
 pub loop-i-preserved : goal.loop-i-preserved
 loop-i-preserved c = (
   search rules,
-  opening-refused c.loop-i.inv.1 c.pre c.loop-i-test.taken c.around_at-y.ensures
+  opening-refused c.loop-i.invariant.1 c.requires c.loop-i-test.true c.around_at-y.ensures
       (sym c.is_eligible.ensures ∙ c.if-is_eligible.false),
 )
 

@@ -13,19 +13,19 @@ number_of-a-requires c =
 
 pub number_of-b-requires : goal.number_of-b-requires
 number_of-b-requires c =
-    record { fact_1 = room-then c.pre.0 c.number_of_lem.ensures; fact_2 = (corners-low c.args.v c.args.face c.pre.1.0).1; fact_3 = c.pre.1.1.0; fact_4 = known-then c.pre.1.1.1.1 c.number_of_lem.ensures }
+    record { fact_1 = room-then c.requires.fact_1 c.number_of_lem.ensures; fact_2 = (corners-low c.args.v c.args.face c.requires.fact_2).1; fact_3 = c.requires.fact_3; fact_4 = known-then c.requires.fact_5 c.number_of_lem.ensures }
 
 pub number_of-c-requires : goal.number_of-c-requires
 number_of-c-requires c =
-    record { fact_1 = room-then (room-then c.pre.0 c.number_of_lem.ensures) c.number_of-b.ensures; fact_2 = (corners-low c.args.v c.args.face c.pre.1.0).2; fact_3 = c.pre.1.1.0; fact_4 = known-then (known-then c.pre.1.1.1.1 c.number_of_lem.ensures) c.number_of-b.ensures }
+    record { fact_1 = room-then (room-then c.requires.fact_1 c.number_of_lem.ensures) c.number_of-b.ensures; fact_2 = (corners-low c.args.v c.args.face c.requires.fact_2).2; fact_3 = c.requires.fact_3; fact_4 = known-then (known-then c.requires.fact_5 c.number_of_lem.ensures) c.number_of-b.ensures }
 
 pub put_face-requires : goal.put_face-requires
 put_face-requires c =
-    omega (arith, c.pre.1.1.1.0)
+    omega (arith, c.requires.fact_4)
 
 pub overflow_add-result : goal.overflow_add-result
 overflow_add-result c =
-    omega (arith, c.pre.1.1.1.0)
+    omega (arith, c.requires.fact_4)
 
 pub shape_of-w : goal.shape_of-w
 shape_of-w c =

@@ -17,8 +17,8 @@ fits c =
     omega (arith, c.loop-hole.invariant.0.inside, c.loop-hole.invariant.0.enough.room.faces_few)
 
 -- the place under the hole is another
-apart : (c : After-comes_first) → c.least_Under.result ≢ c.loop-hole.hole
-apart c e = absurd (omega (arith, c.least_Under.ensures.positive, c.least_Under.ensures.under))
+apart : (c : After-comes_first) → c.least_under-first.result ≢ c.loop-hole.hole
+apart c e = absurd (omega (arith, c.least_under-first.ensures.positive, c.least_under-first.ensures.under))
 
 pub loop-hole-init : goal.loop-hole-init
 loop-hole-init c =
@@ -36,7 +36,7 @@ least_under-first-requires c =
 
 pub ranked_in-requires : goal.ranked_in-requires
 ranked_in-requires c =
-    record { fact_1 = omega (arith, c.loop-hole.invariant.0.few, c.least_Under.ensures.within); fact_2 = c.loop-hole.invariant.0.enough.room; fact_3 = c.loop-hole.invariant.0.enough.costs_long }
+    record { fact_1 = omega (arith, c.loop-hole.invariant.0.few, c.least_under-first.ensures.within); fact_2 = c.loop-hole.invariant.0.enough.room; fact_3 = c.loop-hole.invariant.0.enough.costs_long }
 
 pub shape_of-w-then-not-comes_first : goal.shape_of-w-then-not-comes_first
 shape_of-w-then-not-comes_first c = c.loop-hole.invariant.0.only.but.same_length
@@ -51,26 +51,26 @@ pub returns-then-not-comes_first : goal.returns-then-not-comes_first
 returns-then-not-comes_first c =
     sunk c.loop-hole.invariant.0
     (sinking-stop c.loop-hole.invariant.1
-    (lowest-filled c.args.v c.args.f c.loop-hole.w c.loop-hole.p c.loop-hole.q c.loop-hole.hole c.args.entry c.least_Under.ensures)
+    (lowest-filled c.args.v c.args.f c.loop-hole.w c.loop-hole.p c.loop-hole.q c.loop-hole.hole c.args.entry c.least_under-first.ensures)
     (there-above c.args.v c.args.f c.loop-hole.w c.loop-hole.p c.loop-hole.q c.loop-hole.hole c.args.entry (apart (goal.at.returns-then-not-comes_first c).After-comes_first)
     c.ranked_of.ensures c.ranked_in.ensures c.comes_first.ensures c.if-not-comes_first.true))
 
 pub move_entry-requires : goal.move_entry-requires
 move_entry-requires c =
-    record { fact_1 = omega (arith, c.loop-hole.invariant.0.few, c.least_Under.ensures.within); fact_2 = c.loop-hole.invariant.0.inside; fact_3 = c.loop-hole.invariant.0.enough }
+    record { fact_1 = omega (arith, c.loop-hole.invariant.0.few, c.least_under-first.ensures.within); fact_2 = c.loop-hole.invariant.0.inside; fact_3 = c.loop-hole.invariant.0.enough }
 
 pub loop-hole-smaller : goal.loop-hole-smaller
 loop-hole-smaller c =
-    omega (arith, c.least_Under.ensures.within, c.least_Under.ensures.positive, c.least_Under.ensures.under)
+    omega (arith, c.least_under-first.ensures.within, c.least_under-first.ensures.positive, c.least_under-first.ensures.under)
 
 pub loop-hole-preserved : goal.loop-hole-preserved
 loop-hole-preserved c =
     let lower = there-lower c.args.v c.args.f c.loop-hole.w c.loop-hole.p c.loop-hole.q c.loop-hole.hole c.args.entry (apart (goal.at.loop-hole-preserved c).After-comes_first)
     c.ranked_of.ensures c.ranked_in.ensures c.comes_first.ensures
     c.if-not-comes_first.false in (
-      moving-turn c.args.entry (apart (goal.at.loop-hole-preserved c).After-comes_first) c.move_entry.ensures (omega arith) c.least_Under.ensures.within c.loop-hole.invariant.0,
+      moving-turn c.args.entry (apart (goal.at.loop-hole-preserved c).After-comes_first) c.move_entry.ensures (omega arith) c.least_under-first.ensures.within c.loop-hole.invariant.0,
       sinking-moved c.args.entry (apart (goal.at.loop-hole-preserved c).After-comes_first) c.move_entry.ensures c.loop-hole.invariant.1
-          (lowest-filled c.args.v c.args.f c.loop-hole.w c.loop-hole.p c.loop-hole.q c.loop-hole.hole c.args.entry c.least_Under.ensures) (omega (arith, lower)),
+          (lowest-filled c.args.v c.args.f c.loop-hole.w c.loop-hole.p c.loop-hole.q c.loop-hole.hole c.args.entry c.least_under-first.ensures) (omega (arith, lower)),
     )
 
 pub shape_of-w : goal.shape_of-w

@@ -20,17 +20,17 @@ loop-i-init c = (search rules, marking-none)
 
 pub face_near-face-requires : goal.face_near-face-requires
 face_near-face-requires c =
-    record { fact_1 = framed-room (framed (goal.at.face_near-face-requires c).After-slice_known-1) c.requires.fact_1; fact_2 = search rules; fact_3 = (framed-list (framed (goal.at.face_near-face-requires c).After-slice_known-1) c.requires.fact_2 c.requires.fact_3 c.loop-i.i (search rules)).0 }
+    record { fact_1 = framed-room (framed (goal.at.face_near-face-requires c).At-loop-i) c.requires.fact_1; fact_2 = search rules; fact_3 = (framed-list (framed (goal.at.face_near-face-requires c).At-loop-i) c.requires.fact_2 c.requires.fact_3 c.loop-i.i (search rules)).0 }
 
 pub mark_face-requires : goal.mark_face-requires
 mark_face-requires c =
-    record { fact_1 = framed-room (framed (goal.at.mark_face-requires c).After-slice_known-1) c.requires.fact_1; fact_2 = read-proper (framed (goal.at.mark_face-requires c).After-slice_known-1) c.requires.fact_2 c.requires.fact_3 (search rules) c.face_near-face.ensures }
+    record { fact_1 = framed-room (framed (goal.at.mark_face-requires c).At-loop-i) c.requires.fact_1; fact_2 = read-proper (framed (goal.at.mark_face-requires c).At-loop-i) c.requires.fact_2 c.requires.fact_3 (search rules) c.face_near-face.ensures }
 
 pub loop-i-preserved : goal.loop-i-preserved
 loop-i-preserved c = (
   search rules,
   marking-next c.loop-i.invariant.1
-      (read-listed (framed (goal.at.loop-i-preserved c).After-slice_known-1) c.requires.fact_2 c.requires.fact_3 (search rules) c.face_near-face.ensures)
+      (read-listed (framed (goal.at.loop-i-preserved c).At-loop-i) c.requires.fact_2 c.requires.fact_3 (search rules) c.face_near-face.ensures)
       c.mark_face.ensures,
 )
 

@@ -13,19 +13,19 @@ loop-i-init c = marked-none _
 
 pub overflow_cast-x : goal.overflow_cast-x
 overflow_cast-x c =
-    point-fits (entry-below c.args.margin.now c.loop-i.i c.pre.1 c.loop-i-test.true) c.pre.0.points_few
+    point-fits (entry-below c.args.margin.now c.loop-i.i c.requires.fact_2 c.loop-i-test.true) c.requires.fact_1.points_few
 
 pub set_kind-requires : goal.set_kind-requires
 set_kind-requires c =
-    omega (arith, c.pre.0, c.loop-i.invariant.done.but.same_length, entry-below c.args.margin.now c.loop-i.i c.pre.1 c.loop-i-test.true)
+    omega (arith, c.requires.fact_1, c.loop-i.invariant.done.but.same_length, entry-below c.args.margin.now c.loop-i.i c.requires.fact_2 c.loop-i-test.true)
 
 pub loop-i-preserved : goal.loop-i-preserved
 loop-i-preserved c =
-    marked_more c.pre.0 c.pre.1 c.loop-i.invariant c.loop-i-test.true refl c.kind_number.ensures c.set_kind.ensures
+    marked_more c.requires.fact_1 c.requires.fact_2 c.loop-i.invariant c.loop-i-test.true refl c.kind_number.ensures c.set_kind.ensures
 
 pub shape_of-w : goal.shape_of-w
 shape_of-w c = c.loop-i.invariant.done.but.same_length
 
 pub returns : goal.returns
 returns c =
-    marked_all c.pre.0 c.pre.1 c.loop-i.invariant c.loop-i-test.false
+    marked_all c.requires.fact_1 c.requires.fact_2 c.loop-i.invariant c.loop-i-test.false
