@@ -15,23 +15,23 @@ tested-requires c =
     record { fact_1 = listed-tidy c.args.fold c.requires.fact_1 c.requires.fact_2 c.gather-ring.ensures; fact_2 = c.requires.fact_3.0; fact_3 = around.0; fact_4 = around.1 }
 
 pub fold_mesh-gone-requires : goal.fold_mesh-gone-requires
-fold_mesh-gone-requires c = let held = rw c.tested.ensures.w_unchanged (
-  listed-tidy c.args.fold c.requires.fact_1 c.requires.fact_2 c.gather-ring.ensures,
-  (
-    c.requires.fact_2,
-    (
-      c.gather-ring.ensures.ringed.around_keep,
+fold_mesh-gone-requires c =
+    rw c.tested.ensures.w_unchanged (
+      listed-tidy c.args.fold c.requires.fact_1 c.requires.fact_2 c.gather-ring.ensures,
       (
-        c.gather-ring.ensures.ringed.around_remove,
+        c.requires.fact_2,
         (
-          (c.gather-ring.ensures.ringed.past_pairs, c.gather-ring.ensures.ringed.one_after_other, c.gather-ring.ensures.ringed.within, c.requires.fact_3.0, c.requires.fact_3.1),
-          c.sum-sum.ensures ∙ ap₂ quadric_sum c.quadric_at.ensures c.quadric_at-2.ensures,
+          c.gather-ring.ensures.ringed.around_keep,
+          (
+            c.gather-ring.ensures.ringed.around_remove,
+            (
+              (c.gather-ring.ensures.ringed.past_pairs, c.gather-ring.ensures.ringed.one_after_other, c.gather-ring.ensures.ringed.within, c.requires.fact_3.0, c.requires.fact_3.1),
+              c.sum-sum.ensures ∙ ap₂ quadric_sum c.quadric_at.ensures c.quadric_at-2.ensures,
+            ),
+          ),
         ),
       ),
-    ),
-  ),
-) in
-    record { tidy_1 = held.0; tidy_2 = held.1.0; tidy_3 = held.1.1.0; tidy_4 = held.1.1.1.0; tidy_5 = held.1.1.1.1.0; sum_value = held.1.1.1.1.1 }
+    )
 
 pub returns-in-Allowed : goal.returns-in-Allowed
 returns-in-Allowed c = λ limit bound there.

@@ -9,8 +9,8 @@ is_linked-requires c = let held = (c.requires.fact_1, c.requires.1.1) in
     record { fact_1 = held.0; fact_2 = held.1.0; fact_3 = held.1.1 }
 
 pub tested_faces-requires : goal.tested_faces-requires
-tested_faces-requires c = let held = rw c.is_linked.ensures.w_unchanged c.requires in
-    record { fact_1 = held.0; fact_2 = held.1.0; fact_3 = held.1.1.0; fact_4 = held.1.1.1 }
+tested_faces-requires c =
+    rw c.is_linked.ensures.w_unchanged c.requires
 
 pub returns-then-is_linked : goal.returns-then-is_linked
 returns-then-is_linked c =

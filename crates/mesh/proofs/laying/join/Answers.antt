@@ -8,8 +8,8 @@ pub loop-c-init : goal.loop-c-init
 loop-c-init c = join-start c.requires.fact_3
 
 pub push_corner-requires : goal.push_corner-requires
-push_corner-requires c = let held = omega (arith, join-point c.requires.fact_1 c.requires.fact_2 (omega arith) c.loop-c.invariant) in
-    record { fact_1 = held.0; fact_2 = held.1.0; fact_3 = held.1.1 }
+push_corner-requires c =
+    omega (arith, join-point c.requires.fact_1 c.requires.fact_2 (omega arith) c.loop-c.invariant)
 
 pub loop-c-preserved : goal.loop-c-preserved
 loop-c-preserved c =

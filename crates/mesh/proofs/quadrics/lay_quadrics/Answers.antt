@@ -19,12 +19,10 @@ loop-k-init c =
     (omega arith, quadrics-start c.args.w.now c.args.p.now c.start_quadrics.ensures)
 
 pub face_quadric-requires : goal.face_quadric-requires
-face_quadric-requires c = let held = let k = face-corners (goal.at.face_quadric-requires c).After-face_in-face in omega arith in
-    record { fact_1 = held.0; fact_2 = held.1.0; fact_3 = held.1.1 }
+face_quadric-requires c = let k = face-corners (goal.at.face_quadric-requires c).After-face_in-face in omega arith
 
 pub add_face-requires : goal.add_face-requires
-add_face-requires c = let held = let k = face-corners (goal.at.add_face-requires c).After-face_in-face in omega arith in
-    record { fact_1 = held.0; fact_2 = held.1.0; fact_3 = held.1.1 }
+add_face-requires c = let k = face-corners (goal.at.add_face-requires c).After-face_in-face in omega arith
 
 pub loop-k-preserved : goal.loop-k-preserved
 loop-k-preserved c = (

@@ -16,16 +16,14 @@ points : (c : After-face_in-p) → Corners c.args.v c.face_in-p.result
 points c = corners-read _ c.face_in-p.ensures c.requires.fact_3
 
 pub is_single-requires : goal.is_single-requires
-is_single-requires c = let held = omega (arith, points (goal.at.is_single-requires c).After-face_in-p) in
-    record { fact_1 = held.0; fact_2 = held.1 }
+is_single-requires c = omega (arith, points (goal.at.is_single-requires c).After-face_in-p)
 
 pub returns-then-is_single : goal.returns-then-is_single
 returns-then-is_single c =
     first_passes ((single c.args.v c.args.f c.args.w.now c.args.x)) c.face_in-p.ensures c.is_single.ensures c.if-is_single.true
 
 pub is_single-requires-2 : goal.is_single-requires-2
-is_single-requires-2 c = let held = omega (arith, points (goal.at.is_single-requires-2 c).After-face_in-p) in
-    record { fact_1 = held.0; fact_2 = held.1 }
+is_single-requires-2 c = omega (arith, points (goal.at.is_single-requires-2 c).After-face_in-p)
 
 pub returns-then-is_single-2 : goal.returns-then-is_single-2
 returns-then-is_single-2 c =
@@ -33,8 +31,7 @@ returns-then-is_single-2 c =
     c.is_single-2.ensures c.if-is_single-2.true
 
 pub is_single-requires-3 : goal.is_single-requires-3
-is_single-requires-3 c = let held = omega (arith, points (goal.at.is_single-requires-3 c).After-face_in-p) in
-    record { fact_1 = held.0; fact_2 = held.1 }
+is_single-requires-3 c = omega (arith, points (goal.at.is_single-requires-3 c).After-face_in-p)
 
 pub returns : goal.returns
 returns c =

@@ -13,16 +13,13 @@ points : (c : After-face_in-p) → Corners c.args.v c.face_in-p.result
 points c = corners-read _ c.face_in-p.ensures c.requires.fact_3
 
 pub count_point-a-requires : goal.count_point-a-requires
-count_point-a-requires c = let held = omega (arith, points (goal.at.count_point-a-requires c).After-face_in-p) in
-    record { fact_1 = held.0; fact_2 = held.1 }
+count_point-a-requires c = omega (arith, points (goal.at.count_point-a-requires c).After-face_in-p)
 
 pub count_point-b-requires : goal.count_point-b-requires
-count_point-b-requires c = let held = omega (arith, points (goal.at.count_point-b-requires c).After-face_in-p) in
-    record { fact_1 = held.0; fact_2 = held.1 }
+count_point-b-requires c = omega (arith, points (goal.at.count_point-b-requires c).After-face_in-p)
 
 pub count_point-c-requires : goal.count_point-c-requires
-count_point-c-requires c = let held = omega (arith, points (goal.at.count_point-c-requires c).After-face_in-p) in
-    record { fact_1 = held.0; fact_2 = held.1 }
+count_point-c-requires c = omega (arith, points (goal.at.count_point-c-requires c).After-face_in-p)
 
 -- the sum of the three counts is at most the number of points
 pub overflow_add-result : goal.overflow_add-result

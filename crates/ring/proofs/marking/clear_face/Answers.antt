@@ -12,16 +12,13 @@ points : (c : After-face_in-p) → Corners c.args.v c.face_in-p.result
 points c = corners-read _ c.face_in-p.ensures c.requires.fact_3
 
 pub clear_mark-requires : goal.clear_mark-requires
-clear_mark-requires c = let held = omega (arith, points (goal.at.clear_mark-requires c).After-face_in-p) in
-    record { fact_1 = held.0; fact_2 = held.1 }
+clear_mark-requires c = omega (arith, points (goal.at.clear_mark-requires c).After-face_in-p)
 
 pub clear_mark-requires-2 : goal.clear_mark-requires-2
-clear_mark-requires-2 c = let held = omega (arith, points (goal.at.clear_mark-requires-2 c).After-face_in-p) in
-    record { fact_1 = held.0; fact_2 = held.1 }
+clear_mark-requires-2 c = omega (arith, points (goal.at.clear_mark-requires-2 c).After-face_in-p)
 
 pub clear_mark-requires-3 : goal.clear_mark-requires-3
-clear_mark-requires-3 c = let held = omega (arith, points (goal.at.clear_mark-requires-3 c).After-face_in-p) in
-    record { fact_1 = held.0; fact_2 = held.1 }
+clear_mark-requires-3 c = omega (arith, points (goal.at.clear_mark-requires-3 c).After-face_in-p)
 
 pub returns : goal.returns
 returns c =

@@ -12,24 +12,24 @@ points : (c : After-face_in-p) → Corners c.args.v c.face_in-p.result
 points c = corners-read _ c.face_in-p.ensures c.requires.fact_3
 
 pub add_mark-requires : goal.add_mark-requires
-add_mark-requires c = let held = let p = points (goal.at.add_mark-requires c).After-face_in-p in
-    omega (arith, c.requires.fact_4 _ p.a_below) in
-    record { fact_1 = held.0; fact_2 = held.1.0; fact_3 = held.1.1 }
+add_mark-requires c =
+    let p = points (goal.at.add_mark-requires c).After-face_in-p in
+    omega (arith, c.requires.fact_4 _ p.a_below)
 
 pub add_mark-requires-2 : goal.add_mark-requires-2
-add_mark-requires-2 c = let held = let p = points (goal.at.add_mark-requires-2 c).After-face_in-p in
-    omega (arith, c.requires.fact_4 _ p.b_below, remarked-most _ c.add_mark.ensures _ p.b_below) in
-    record { fact_1 = held.0; fact_2 = held.1.0; fact_3 = held.1.1 }
+add_mark-requires-2 c =
+    let p = points (goal.at.add_mark-requires-2 c).After-face_in-p in
+    omega (arith, c.requires.fact_4 _ p.b_below, remarked-most _ c.add_mark.ensures _ p.b_below)
 
 pub add_mark-requires-3 : goal.add_mark-requires-3
-add_mark-requires-3 c = let held = let p = points (goal.at.add_mark-requires-3 c).After-face_in-p in
+add_mark-requires-3 c =
+    let p = points (goal.at.add_mark-requires-3 c).After-face_in-p in
     omega (
       arith,
       c.requires.fact_4 _ p.c_below,
       remarked-most _ c.add_mark.ensures _ p.c_below,
       remarked-most _ c.add_mark-2.ensures _ p.c_below,
-    ) in
-    record { fact_1 = held.0; fact_2 = held.1.0; fact_3 = held.1.1 }
+    )
 
 pub returns : goal.returns
 returns c =
