@@ -23,10 +23,10 @@ count_point-c-requires c = omega (arith, points (goal.at.count_point-c-requires 
 
 -- the sum of the three counts is at most the number of points
 pub overflow_add-result : goal.overflow_add-result
-overflow_add-result c = omega (arith, counted-few (returns (goal.at.overflow_add-result c).After-slice_known-4-1))
+overflow_add-result c = omega (arith, counted-few (face-counted _ c.face_in-p.ensures c.count_point-a.ensures c.count_point-b.ensures c.count_point-c.ensures))
 
 pub overflow_add-result-2 : goal.overflow_add-result-2
-overflow_add-result-2 c = omega (arith, counted-few (returns (goal.at.overflow_add-result-2 c).After-slice_known-4-1))
+overflow_add-result-2 c = omega (arith, counted-few (face-counted _ c.face_in-p.ensures c.count_point-a.ensures c.count_point-b.ensures c.count_point-c.ensures))
 
 pub returns : goal.returns
 returns c =

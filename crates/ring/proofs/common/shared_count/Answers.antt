@@ -10,6 +10,7 @@ use Rattle.walk.specs.Faces.{holds, face_at}
 use Rattle.ring.proofs.SlotLaws.{slot_small}
 use Rattle.ring.proofs.TurnLaws.{Tally, tally-none, tally-few, tally-more}
 use Rattle.ring.proofs.common.shared_count.Goals as goal
+use Rattle.ring.proofs.common.shared_count.Goals.{then-face_holds, else-face_holds}
 
 pub loop-i-init : goal.loop-i-init
 loop-i-init c = (omega arith, tally-none _ _ _)
@@ -26,7 +27,7 @@ loop-i-preserved c =
     let answer = c.face_holds.ensures ∙ ap (holds c.args.y) c.face_in.ensures in (
       omega arith,
       tally-more c.loop-i.invariant.1 c.slot_at-k.ensures answer
-          (⊎_elim (λ p. rw p.0.taken p.1) (λ p. rw p.0.left (omega arith)) c.if-face_holds.branch),
+          (elim c.if-face_holds.branch [ then-face_holds w ↦ rw w.if-face_holds.true w.r-is | else-face_holds w ↦ rw w.if-face_holds.false (omega arith) ]),
     )
 
 pub returns : goal.returns

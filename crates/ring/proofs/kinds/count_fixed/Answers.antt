@@ -8,6 +8,7 @@ use borrow.Author.Rules.{rules}
 use Rattle.placement.specs.Choices.{kind_of, fixed}
 use Rattle.ring.proofs.KindLaws.{CountedTo, counted_none, counted-few, counted-more, counted-all}
 use Rattle.ring.proofs.kinds.count_fixed.Goals as goal
+use Rattle.ring.proofs.kinds.count_fixed.Goals.{then-is_fixed, else-is_fixed}
 
 pub loop-x-init : goal.loop-x-init
 loop-x-init c = counted_none _ _ _
@@ -23,7 +24,7 @@ pub loop-x-preserved : goal.loop-x-preserved
 loop-x-preserved c =
     counted-more c.loop-x.invariant c.loop-x-test.true
     (c.is_fixed.ensures ∙ ap fixed (c.kind_of.ensures ∙ ap kind_of c.kind_at-number.ensures))
-    (⊎_elim (λ p. rw p.0.taken p.1) (λ p. rw p.0.left (omega arith)) c.if-is_fixed.branch)
+    (elim c.if-is_fixed.branch [ then-is_fixed w ↦ rw w.if-is_fixed.true w.n-is | else-is_fixed w ↦ rw w.if-is_fixed.false (omega arith) ])
 
 pub returns : goal.returns
 returns c = counted-all c.loop-x.invariant c.loop-x-test.false
