@@ -15,8 +15,7 @@ returns-then-shared-lt1 c =
     record { value = not-linked c.args.fold.remove c.requires.fact_2.gathered c.shared_count-shared.ensures c.if-shared-lt1.true; w_unchanged = refl }
 
 pub common_count-requires : goal.common_count-requires
-common_count-requires c = let held = c.requires in
-    record { fact_1 = held.0; fact_2 = held.1.0; fact_3 = held.1.1 }
+common_count-requires c = record { fact_1 = c.requires.fact_1; fact_2 = c.requires.fact_2; fact_3 = c.requires.fact_3 }
 
 pub returns : goal.returns
 returns c =

@@ -7,8 +7,7 @@ pub returns-then-lowest-k : goal.returns-then-lowest-k
 returns-then-lowest-k c = rw (le-ltb c.args.k c.args.lowest c.if-lowest-k.true)
 
 pub is_harmed-requires : goal.is_harmed-requires
-is_harmed-requires c = let held = c.requires in
-    record { fact_1 = held.0; fact_2 = held.1.0; fact_3 = held.1.1.0; fact_4 = held.1.1.1 }
+is_harmed-requires c = record { fact_1 = c.requires.fact_1; fact_2 = c.requires.fact_2; fact_3 = c.requires.fact_3; fact_4 = c.requires.fact_4 }
 
 pub returns-then-is_harmed : goal.returns-then-is_harmed
 returns-then-is_harmed c = rw (lt-ltb _ _ c.if-lowest-k.false, ← c.is_harmed.ensures, c.if-is_harmed.true)

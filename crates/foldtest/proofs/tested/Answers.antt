@@ -5,12 +5,11 @@ use Rattle.foldtest.proofs.LinkLaws.{tested-unlinked, tested-by-faces}
 use Rattle.foldtest.proofs.tested.Goals as goal
 
 pub is_linked-requires : goal.is_linked-requires
-is_linked-requires c = let held = (c.requires.fact_1, c.requires.1.1) in
-    record { fact_1 = held.0; fact_2 = held.1.0; fact_3 = held.1.1 }
+is_linked-requires c = record { fact_1 = c.requires.fact_1; fact_2 = c.requires.fact_3; fact_3 = c.requires.fact_4 }
 
 pub tested_faces-requires : goal.tested_faces-requires
 tested_faces-requires c =
-    rw c.is_linked.ensures.w_unchanged c.requires
+    rw c.is_linked.ensures.w_unchanged (record { fact_1 = c.requires.fact_1; fact_2 = c.requires.fact_2; fact_3 = c.requires.fact_3; fact_4 = c.requires.fact_4 })
 
 pub returns-then-is_linked : goal.returns-then-is_linked
 returns-then-is_linked c =

@@ -5,8 +5,7 @@ use Rattle.foldtest.proofs.HarmLaws.{face-placed, faces-allow, faces-refuse}
 use Rattle.foldtest.proofs.tested_faces.Goals as goal
 
 pub lowest_around-k-requires : goal.lowest_around-k-requires
-lowest_around-k-requires c = let held = c.requires in
-    record { fact_1 = held.0; fact_2 = held.1.0; fact_3 = held.1.1.0; fact_4 = held.1.1.1 }
+lowest_around-k-requires c = record { fact_1 = c.requires.fact_1; fact_2 = c.requires.fact_2; fact_3 = c.requires.fact_3; fact_4 = c.requires.fact_4 }
 
 pub face_in-requires : goal.face_in-requires
 face_in-requires c =
