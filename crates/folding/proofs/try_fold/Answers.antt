@@ -21,7 +21,7 @@ fold_mesh-gone-requires c =
 pub returns-in-Allowed : goal.returns-in-Allowed
 returns-in-Allowed c = λ limit bound there.
     fold-made c.args.fold c.requires.fact_1 c.requires.fact_2 c.gather-ring.ensures c.args.p.now c.args.q.now limit bound there c.tested.ensures.value c.in-Allowed.is
-    (rw c.tested.ensures.w_unchanged (goal.at.returns-in-Allowed c).After-tested c.fold_mesh-gone.ensures)
+    (rw c.tested.ensures.w_unchanged at c.fold_mesh-gone.ensures)
 
 pub returns-in-Not : goal.returns-in-Not
 returns-in-Not c = λ limit bound there.

@@ -22,7 +22,7 @@ counted : (c : After-slice_known-in-loop-i-1) →
     Tally (λ k. holds c.args.x (face_at c.args.w.now k)) c.args.w.now c.args.list (c.loop-i.i + 1) (c.loop-i.gone + c.kill_face-gone.result)
 counted c =
     tally-more c.loop-i.invariant.1 (turn-slot (omega arith) c.slot_at-k.ensures c.loop-i.invariant.0)
-    (ap (holds c.args.x) (face-flags c.loop-i.invariant.0.but c.slot_at-k.result (inside c.before.before.before.before)))
+    (ap (holds c.args.x) (face-flags c.loop-i.invariant.0.but c.slot_at-k.result (inside c.before.before.before.before.before)))
     (ap (λ (m : ℕ). c.loop-i.gone + m) c.kill_face-gone.ensures.1)
 
 pub loop-i-init : goal.loop-i-init
