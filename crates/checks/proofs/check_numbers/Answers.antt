@@ -1,7 +1,6 @@
 -- `checks::check_numbers` meets its contract: what the faces' verdict is decides whether the margin is looked at.
 -- Assumes nothing.
 use mathlib.Core.Path.{◌≡◌, sym, ap, ◌∙◌}
-use borrow.Author.Rules.{rules}
 use Rattle.meaning.specs.declared.Verdict.{Verdict}
 use Rattle.meaning.specs.Answers.{and_then}
 use Rattle.checks.proofs.check_numbers.Goals as goal

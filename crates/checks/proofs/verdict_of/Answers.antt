@@ -1,6 +1,5 @@
 -- `checks::verdict_of` meets its contract: at each return the tests made before did not hold, and the last one did.
 -- Assumes nothing.
-use borrow.Author.Rules.{rules}
 use Rattle.meaning.specs.Answers.{verdict_of}
 use Rattle.meaning.proofs.VerdictOrder.{decides, goes_on}
 use Rattle.checks.proofs.OrderLaws.{found-not, not-large}
