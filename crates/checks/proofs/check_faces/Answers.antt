@@ -2,11 +2,8 @@
 -- The measure is what is left of the faces. Assumes nothing.
 use mathlib.Core.Path.{ap, ◌∙◌}
 use Rattle.meaning.specs.Answers.{outside, doubled}
-use Rattle.checks.proofs.FaceLaws.{none_passed, eight, nine, one-more-passed, all-passed}
+use Rattle.checks.proofs.FaceLaws.{eight, nine, one-more-passed, all-passed}
 use Rattle.checks.proofs.check_faces.Goals as goal
-
-pub loop-k-init : goal.loop-k-init
-loop-k-init c = none_passed _ _ _
 
 pub returns-then-is_outside : goal.returns-then-is_outside
 returns-then-is_outside c =

@@ -2,14 +2,7 @@
 -- Assumes nothing.
 use Rattle.meaning.specs.Answers.{verdict_of}
 use Rattle.meaning.proofs.VerdictOrder.{decides, goes_on}
-use Rattle.checks.proofs.OrderLaws.{found-not, not-large}
 use Rattle.checks.proofs.verdict_of.Goals as goal
-
-pub is_short-requires : goal.is_short-requires
-is_short-requires c = not-large _ _ (search found-not)
-
-pub check_measured-requires : goal.check_measured-requires
-check_measured-requires c = not-large _ _ (search found-not)
 
 pub returns-then-is_uneven : goal.returns-then-is_uneven
 unfolding verdict_of
