@@ -1,5 +1,4 @@
 -- What holds of orders and their parts.
-mod RefusedLaws
 mod LoopLaws
 pub mod PartLaws
 pub mod OthersLaws

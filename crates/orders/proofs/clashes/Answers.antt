@@ -1,6 +1,6 @@
 -- `orders::clashes` meets its contract: whether one of the orders before j clashes with that at `place` is built up order by order.
 -- Assumes nothing.
-use Rattle.std.proofs.Common.{◌≡◌, sym, arith}
+use Rattle.std.proofs.Common.{sym, arith}
 use Rattle.orders.proofs.LoopLaws.{some-none, clashes-next}
 use Rattle.orders.proofs.clashes.Goals as goal
 

@@ -1,7 +1,7 @@
 -- `orders::refused` meets its contract: `found` says whether there are too many orders, or one of those before k is misplaced or clashes.
 -- Those that are looked at tell the rest.
 -- Assumes nothing.
-use Rattle.std.proofs.Common.{◌≡◌, ◌<◌, ◌≤◌, length, ap, ◌∙◌, arith}
+use Rattle.std.proofs.Common.{◌≡◌, ◌<◌, length, ap, ◌∙◌, arith}
 use Rattle.orders.proofs.LoopLaws.{found, found_none, found-one-more, found_all, looked-most}
 use Rattle.orders.proofs.refused.Goals as goal
 
