@@ -37,6 +37,7 @@ module _ {A : Type 0} (test : A → Bool) (d : A) where
   -- none passes exactly where each fails
   pub each-fails : (xs : List A) → some test xs ≡ false → (k : ℕ) → k < length xs → test (get_or xs k d) ≡ false
   unfolding some
+  each-fails [] e k h = elim h [ ]
   each-fails (x ∷ xs) e zero h = (neither-of (test x) _ e).0
   each-fails (x ∷ xs) e (suc k) h = each-fails xs (neither-of (test x) _ e).1 k (le_of_suc-le-suc h)
 

@@ -208,7 +208,7 @@ pub fn verdict_of(
     rooms: Rooms,
     options: Options,
 ) -> Verdict
-    ensures { result ≡ verdict_of (record { points = points.entry.now; faces = faces.now; margin = margin.now; rooms = rooms; options = options }) }
+    ensures { result ≡ verdict_of (record { points = points.now; faces = faces.now; margin = margin.now; rooms = rooms; options = options }) }
 {
     let v = points.len() / 3;
     let f = faces.len() / 3;

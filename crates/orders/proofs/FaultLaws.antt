@@ -1,12 +1,11 @@
 -- A call is refused as a whole exactly when document 02 says so.
 -- Assumes nothing.
-use Prim.Native.Nat.{ℕ, ◌+◌, ◌*◌, ◌≤◌, ◌<◌}
+use Prim.Native.Nat.{ℕ, ◌*◌, ◌<◌}
 use mathlib.Core.Path.{◌≡◌, subst}
 use mathlib.Core.Logic.{◌≢◌, inl, inr}
-use mathlib.Core.Bool.{Bool, true, false, ◌||◌}
+use mathlib.Core.Bool.{true, false, ◌||◌}
 use mathlib.Core.List.{List}
 use native.Mathlib.Nat.{not-le_of_lt, lt_irrefl, lt_trans}
-use native.Mathlib.Omega.{arith}
 use lib.Dec.{ltb}
 use lib.ListN.{length}
 use borrow.Author.Tests.{ltb-true}
@@ -16,7 +15,7 @@ use Rattle.lists.proofs.TestLaws.{by-test, either-of}
 use Rattle.orders.specs.declared.Order.{Order}
 use Rattle.orders.specs.declared.Buffers.{Buffers}
 use Rattle.orders.specs.Orders.{order_at}
-use Rattle.orders.specs.Refused.{is_too_many, outside, misplaced, share, clash, clashes, bad_order, refused, PartOutside, Shared, Faulty, over-64, answers-short, closed-short, part-outside, cell_shared}
+use Rattle.orders.specs.Refused.{outside, misplaced, share, clash, clashes, bad_order, refused, PartOutside, Faulty, over-64, answers-short, closed-short, part-outside, cell_shared}
 use Rattle.orders.proofs.PartLaws.{shared, shared-cell}
 use Rattle.orders.proofs.FineLaws.{one_below, AllWithin, fine-count, fine-within, fine-apart}
 

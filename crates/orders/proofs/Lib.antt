@@ -1,9 +1,6 @@
--- What holds of orders and their parts, and the steps of the walks that are made by hand.
-mod RefusedLaws
+-- What holds of orders and their parts.
 mod LoopLaws
 pub mod PartLaws
 pub mod OthersLaws
 pub mod FineLaws
 pub mod FaultLaws
-pub mod WalkSteps
-pub mod OrderSteps

@@ -1,21 +1,22 @@
 -- Whether one of the orders looked at so far passes a test, as the loops of `clashes` and `refused` build it up; and how many are looked at.
 -- Assumes nothing.
 use mathlib.Core.Path.{◌≡◌, refl, sym, ◌∙◌, ap}
-use Prim.Native.Nat.{ℕ, zero, suc, ◌+◌, ◌≤◌}
+use Prim.Native.Nat.{ℕ, zero, suc, ◌+◌, ◌≤◌, ◌<◌}
 use native.Mathlib.Nat.{add-zero, add-suc}
 use native.Mathlib.Omega.{arith}
 use mathlib.Core.Bool.{Bool, true, false, ◌||◌, or-false}
 use mathlib.Core.List.{List, [], ◌∷◌}
 use lib.Dec.{ltb}
-use lib.ListN.{length}
+use lib.ListN.{length, get_or}
 use borrow.Author.Tests.{ltb-false}
+use Rattle.std.proofs.lemmas.List.{get_or_default}
 use Rattle.lists.specs.Lists.{some, below}
 use Rattle.lists.proofs.EveryLaws.{some-append}
 use Rattle.lists.proofs.TestLaws.{by-test}
 use Rattle.orders.specs.declared.Order.{Order}
 use Rattle.orders.specs.declared.Buffers.{Buffers}
-use Rattle.orders.specs.Orders.{order_at}
-use Rattle.orders.specs.Refused.{is_too_many, misplaced, clashes, bad_order, refused}
+use Rattle.orders.specs.Orders.{order_at, no_order}
+use Rattle.orders.specs.Refused.{clash, is_too_many, misplaced, clashes, bad_order, refused}
 use Rattle.orders.specs.Clauses.{looked_at}
 
 -- none yet
@@ -30,6 +31,15 @@ some_next test k =
     ap (λ (n : ℕ). some test (below n)) (add-suc k zero ∙ ap suc (add-zero k))
     ∙ some-append test (below k) (k ∷ [])
     ∙ ap (λ (b : Bool). some test (below k) || b) (or-false (test k))
+
+-- whether one of those before j clashes with the order at a place, one more; the code reads the orders with another default
+pub clashes-next :
+    (orders : List Order) (place j : ℕ) (d e : Order) {found hit : Bool} → j < length orders → place < length orders
+    → found ≡ some (λ (k : ℕ). clash (order_at orders k) (order_at orders place)) (below j) → hit ≡ clash (get_or orders j d) (get_or orders place e)
+    → (found || hit) ≡ some (λ (k : ℕ). clash (order_at orders k) (order_at orders place)) (below (j + 1))
+clashes-next orders place j d e less within so_far is =
+    (λ t. so_far t || (is ∙ (λ u. clash (get_or_default orders j d no_order less u) (get_or_default orders place e no_order within u))) t)
+    ∙ sym (some_next _ j)
 
 -- no more are looked at than there are
 pub looked-most : (n : ℕ) → looked_at n ≤ n
@@ -55,6 +65,13 @@ found-next orders cells k =
     grouped true b c d = refl
     grouped false true c d = refl
     grouped false false c d = refl
+
+-- the same of what the code found, and of what it read with another default
+pub found-one-more :
+    (orders : List Order) (cells : Buffers) (k : ℕ) (d : Order) {so_far bad hit : Bool} → k < length orders
+    → so_far ≡ found orders cells k → bad ≡ misplaced cells (get_or orders k d) → hit ≡ clashes orders k → ((so_far || bad) || hit) ≡ found orders cells (k + 1)
+found-one-more orders cells k d less f m h =
+    (λ t. (f t || (m ∙ ap (misplaced cells) (get_or_default orders k d no_order less)) t) || h t) ∙ found-next orders cells k
 
 -- those that are looked at tell whether the call is refused: over 64 it is, whatever they are
 pub found_all : (orders : List Order) (cells : Buffers) → found orders cells (looked_at (length orders)) ≡ refused orders cells

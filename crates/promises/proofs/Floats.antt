@@ -107,6 +107,7 @@ units-any k g f s q j = go (ltb (q * 2 ^ j) (2 ^ (low f + suc (emax f))))
   where
     go : (b : Bool) → AtMost k g (cond b (odd (suc (prec f)) false q j (low f)) (inf false)) → AtMost k g (cond b (odd (suc (prec f)) s q j (low f)) (inf s))
     go true h = odd-any k g (suc (prec f)) s q j (low f) h
+    go false h = elim h [ ]
 
 -- a fraction a / c that is at most the bound rounds to at most the bound
 pub round-most : (f : Format) (s : Bool) (a c k g : ℕ) → 0 < c → Has f k g → a ≤ k * 2 ^ g * c → AtMost k g (round f s a c)

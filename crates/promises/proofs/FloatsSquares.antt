@@ -14,7 +14,7 @@ use lib.Ieee.Exact.{HasValue}
 use lib.Ieee.Order.{round_mono}
 use lib.Ieee.Back.{round_whole}
 use Rattle.bits.proofs.RootSteps.{lt-or-le}
-use Rattle.bits.proofs.NotBelowZero.{NotBelow, number, add-not-below}
+use Rattle.bits.proofs.NotBelowZero.{NotBelow, number, infinite, add-not-below}
 use Rattle.geometry.specs.declared.Point.{Point}
 use Rattle.geometry.specs.Points.{dot}
 use Rattle.promises.proofs.Floats.{AtMost, most, Has, AtLeast, least, le-tests, round-plus, add_most, mul_most}
@@ -28,6 +28,7 @@ unfolding le
 above-one nan p b v h = absurd v
 above-one (inf t) p b v h = absurd v
 above-one (fin true n d) p b v h = absurd (true≢false v.0)
+above-one (fin false n d) infinite b v h = elim b [ ]
 above-one (fin false n d) (number {m} {e}) (most b) v h =
     let is : n * up d ≡ down d = sym (mul-one (n * up d)) ∙ v.1 ∙ one-mul (down d) in
     least {e = e}
@@ -68,6 +69,7 @@ square-one f (large {s = false} {m} {e} h) b = round-one f (m * up e * (m * up e
 -- a sum with a part that is at least 1, and another that isn't negative
 add-one-left : (f : Format) {k g : ℕ} {x y : Float} → AtLeast 0 x → NotBelow y → AtMost k g (add f x y) → AtLeast 0 (add f x y)
 unfolding add sum
+add-one-left f (least h) infinite b = elim b [ ]
 add-one-left f (least {m} {e} h) (number {m = n} {e = d}) b =
     round-one f (m * up e * down d + n * up d * down e) (down e * down d) (mul-pos (down_pos e) (down_pos d))
     (le_trans (mul-le-mul_right (down d) (le_trans h (le_of_eq (mul-one (m * up e))))) (le-add_right _ _)) b
@@ -75,6 +77,7 @@ add-one-left f (least {m} {e} h) (number {m = n} {e = d}) b =
 -- the same with the parts the other way round
 add-one-right : (f : Format) {k g : ℕ} {x y : Float} → AtLeast 0 y → NotBelow x → AtMost k g (add f x y) → AtLeast 0 (add f x y)
 unfolding add sum
+add-one-right f (least h) infinite b = elim b [ ]
 add-one-right f (least {m} {e} h) (number {m = n} {e = d}) b =
     round-one f (n * up d * down e + m * up e * down d) (down d * down e) (mul-pos (down_pos d) (down_pos e))
     (le_trans (le_of_eq (mul_comm (down d) (down e))) (le_trans (mul-le-mul_right (down d) (le_trans h (le_of_eq (mul-one (m * up e))))) (le-add_left _ _))) b

@@ -1,6 +1,5 @@
 -- `checks::bad_limit` meets its contract, by cases on the limit: NaN alone differs from itself.
 -- Assumes nothing.
-use borrow.Author.Rules.{rules}
 use Rattle.checks.proofs.FloatLaws.{nan-alone-differs}
 use Rattle.checks.proofs.bad_limit.Goals as goal
 

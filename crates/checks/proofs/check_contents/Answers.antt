@@ -1,6 +1,5 @@
 -- `checks::check_contents` meets its contract: each return by the law of its number, from the place that `first_bad` found.
 -- Assumes nothing.
-use borrow.Author.Rules.{rules}
 use lib.Ieee.{of_bits}
 use Rattle.checks.proofs.ContentsLaws.{seven, copied, numbers-decide}
 use Rattle.checks.proofs.check_contents.Goals as goal

@@ -1,15 +1,9 @@
 -- `checks::check_faces` meets its contract. The loop's invariant: the faces passed are proper, so those from k on decide.
 -- The measure is what is left of the faces. Assumes nothing.
-use Prim.Native.Nat.{◌-◌}
-use native.Mathlib.Omega.{arith}
 use mathlib.Core.Path.{ap, ◌∙◌}
-use borrow.Author.Rules.{rules}
 use Rattle.meaning.specs.Answers.{outside, doubled}
-use Rattle.checks.proofs.FaceLaws.{Passed, none_passed, eight, nine, one-more-passed, all-passed}
+use Rattle.checks.proofs.FaceLaws.{eight, nine, one-more-passed, all-passed}
 use Rattle.checks.proofs.check_faces.Goals as goal
-
-pub loop-k-init : goal.loop-k-init
-loop-k-init c = none_passed _ _ _
 
 pub returns-then-is_outside : goal.returns-then-is_outside
 returns-then-is_outside c =

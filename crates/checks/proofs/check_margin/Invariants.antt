@@ -1,10 +1,8 @@
 -- `checks::check_margin` meets its contract. The loop's invariant: none of the entries passed is bad.
 -- The measure is what is left of the margin. Assumes nothing.
 use Prim.Native.Nat.{◌-◌}
-use mathlib.Core.Path.{sym, ◌∙◌}
-use borrow.Author.Rules.{rules}
 use lib.ListN.{length}
-use Rattle.checks.proofs.MarginLaws.{Ascends, none_seen, one-more-good, place_fits, twelve, margin-passed}
+use Rattle.checks.proofs.MarginLaws.{Ascends}
 use Rattle.checks.proofs.check_margin.Given as goal
 
 abbrev pub invariant-loop-k : goal.invariant-loop-k

@@ -1,16 +1,8 @@
 -- `checks::first_bad` meets its contract. The loop's invariant: the coordinates passed are good, so the first bad one lies from k on.
 -- The measure is what is left of the list. Assumes nothing.
-use Prim.Native.Nat.{◌-◌}
 use mathlib.Core.Path.{sym, ◌∙◌}
-use borrow.Author.Rules.{rules}
-use lib.ListN.{length}
-use lib.Ieee.{nan}
-use Rattle.meaning.specs.Answers.{bad_coordinate}
-use Rattle.checks.proofs.SearchLaws.{Searched, start, found, passed, none_left}
+use Rattle.checks.proofs.SearchLaws.{found, passed, none_left}
 use Rattle.checks.proofs.first_bad.Goals as goal
-
-pub loop-k-init : goal.loop-k-init
-loop-k-init c = start _ _ _
 
 pub returns-then-bad_coordinate : goal.returns-then-bad_coordinate
 returns-then-bad_coordinate c = found _ _ _ c.loop-k.invariant c.loop-k-test.true (sym c.bad_coordinate.ensures ∙ c.if-bad_coordinate.true)

@@ -1,16 +1,8 @@
 -- `checks::verdict_of` meets its contract: at each return the tests made before did not hold, and the last one did.
 -- Assumes nothing.
-use borrow.Author.Rules.{rules}
 use Rattle.meaning.specs.Answers.{verdict_of}
 use Rattle.meaning.proofs.VerdictOrder.{decides, goes_on}
-use Rattle.checks.proofs.OrderLaws.{found-not, not-large}
 use Rattle.checks.proofs.verdict_of.Goals as goal
-
-pub is_short-requires : goal.is_short-requires
-is_short-requires c = not-large _ _ (search found-not)
-
-pub check_measured-requires : goal.check_measured-requires
-check_measured-requires c = not-large _ _ (search found-not)
 
 pub returns-then-is_uneven : goal.returns-then-is_uneven
 unfolding verdict_of
