@@ -25,5 +25,5 @@ shape_of-folds c = c.folds-1.given
 
 pub returns : goal.returns
 returns c =
-    called-with-folds (λ options. input_of c.args.points.now c.args.faces.now c.args.margin.now options (lent c.args.out-points.now c.args.out-faces.now c.args.work-u32.now c.args.work-f32.now c.args.work-f64.now))
+    called-with-folds (λ options. input_of c.args.points.now c.args.faces.now c.args.margin.now options (lent c.args.out_points.now c.args.out_faces.now c.args.work_u32.now c.args.work_f32.now c.args.work_f64.now))
     c.options_of-options.ensures c.thin-r.ensures c.tell.ensures

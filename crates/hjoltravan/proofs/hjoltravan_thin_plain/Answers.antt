@@ -22,5 +22,5 @@ shape_of-work_f64 c = c.work_f64-1.given
 
 pub returns : goal.returns
 returns c =
-    called (λ options. input_of c.args.points.now c.args.faces.now c.args.margin.now options (lent c.args.out-points.now c.args.out-faces.now c.args.work-u32.now c.args.work-f32.now c.args.work-f64.now))
+    called (λ options. input_of c.args.points.now c.args.faces.now c.args.margin.now options (lent c.args.out_points.now c.args.out_faces.now c.args.work_u32.now c.args.work_f32.now c.args.work_f64.now))
     c.options_of-options.ensures c.thin-r.ensures c.tell.ensures

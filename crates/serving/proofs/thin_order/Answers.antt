@@ -28,7 +28,7 @@ shape_of-closed c = c.closed-1.given
 pub returns : goal.returns
 returns c =
     order-done (sources c.args.points.now c.args.faces.now c.args.margins.now) c.args.order c.args.place
-    (lent c.args.out-points.now c.args.out-faces.now c.args.work-u32.now c.args.work-f32.now c.args.work-f64.now) _
+    (lent c.args.out_points.now c.args.out_faces.now c.args.work_u32.now c.args.work_f32.now c.args.work_f64.now) _
     c.thin_into-r.ensures
     (record {
       points = c.out_points-1.given.0;

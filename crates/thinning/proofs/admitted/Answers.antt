@@ -11,18 +11,18 @@ use Rattle.thinning.proofs.admitted.Goals as goal
 use Rattle.thinning.proofs.admitted.Goals.{Start}
 
 -- what the checks have shown of it
-fine : (c : Start) → Admissible ((input_of c.args.points.now c.args.faces.now c.args.margin.now c.args.options ((lent c.args.out-points.now c.args.out-faces.now c.args.w.now c.args.p.now c.args.q.now))))
-fine c = verdicts.admitted ((input_of c.args.points.now c.args.faces.now c.args.margin.now c.args.options ((lent c.args.out-points.now c.args.out-faces.now c.args.w.now c.args.p.now c.args.q.now)))) c.requires
+fine : (c : Start) → Admissible ((input_of c.args.points.now c.args.faces.now c.args.margin.now c.args.options ((lent c.args.out_points.now c.args.out_faces.now c.args.w.now c.args.p.now c.args.q.now))))
+fine c = verdicts.admitted ((input_of c.args.points.now c.args.faces.now c.args.margin.now c.args.options ((lent c.args.out_points.now c.args.out_faces.now c.args.w.now c.args.p.now c.args.q.now)))) c.requires
 
 pub walked-came-requires : goal.walked-came-requires
 walked-came-requires c =
-    record { fact_1 = ready c.args.points.now c.args.faces.now c.args.margin.now c.args.options ((lent c.args.out-points.now c.args.out-faces.now c.args.w.now c.args.p.now c.args.q.now)) (fine (goal.at.walked-came-requires c).Start); fact_2 = (fine (goal.at.walked-came-requires c).Start).sized.unit_known }
+    record { fact_1 = ready c.args.points.now c.args.faces.now c.args.margin.now c.args.options ((lent c.args.out_points.now c.args.out_faces.now c.args.w.now c.args.p.now c.args.q.now)) (fine (goal.at.walked-came-requires c).Start); fact_2 = (fine (goal.at.walked-came-requires c).Start).sized.unit_known }
 
 pub finished-requires : goal.finished-requires
 finished-requires c =
     let sized = (fine (goal.at.finished-requires c).Start).sized in
-    finish-asked ((input_of c.args.points.now c.args.faces.now c.args.margin.now c.args.options ((lent c.args.out-points.now c.args.out-faces.now c.args.w.now c.args.p.now c.args.q.now)))) (same-walk c.args.points.now c.args.faces.now c.args.margin.now c.args.options ((lent c.args.out-points.now c.args.out-faces.now c.args.w.now c.args.p.now c.args.q.now)) c.walked-came.ensures) sized.room_points sized.room_faces
-    (ready c.args.points.now c.args.faces.now c.args.margin.now c.args.options ((lent c.args.out-points.now c.args.out-faces.now c.args.w.now c.args.p.now c.args.q.now)) (fine (goal.at.finished-requires c).Start)).working
+    finish-asked ((input_of c.args.points.now c.args.faces.now c.args.margin.now c.args.options ((lent c.args.out_points.now c.args.out_faces.now c.args.w.now c.args.p.now c.args.q.now)))) (same-walk c.args.points.now c.args.faces.now c.args.margin.now c.args.options ((lent c.args.out_points.now c.args.out_faces.now c.args.w.now c.args.p.now c.args.q.now)) c.walked-came.ensures) sized.room_points sized.room_faces
+    (ready c.args.points.now c.args.faces.now c.args.margin.now c.args.options ((lent c.args.out_points.now c.args.out_faces.now c.args.w.now c.args.p.now c.args.q.now)) (fine (goal.at.finished-requires c).Start)).working
 
 pub shape_of-out_points : goal.shape_of-out_points
 shape_of-out_points c = c.out_points-1.given
@@ -44,4 +44,4 @@ shape_of-folds c = c.folds-1.given
 
 pub returns : goal.returns
 returns c =
-    thinned-by ((input_of c.args.points.now c.args.faces.now c.args.margin.now c.args.options ((lent c.args.out-points.now c.args.out-faces.now c.args.w.now c.args.p.now c.args.q.now)))) (same-walk c.args.points.now c.args.faces.now c.args.margin.now c.args.options ((lent c.args.out-points.now c.args.out-faces.now c.args.w.now c.args.p.now c.args.q.now)) c.walked-came.ensures) c.finished.ensures c.requires
+    thinned-by ((input_of c.args.points.now c.args.faces.now c.args.margin.now c.args.options ((lent c.args.out_points.now c.args.out_faces.now c.args.w.now c.args.p.now c.args.q.now)))) (same-walk c.args.points.now c.args.faces.now c.args.margin.now c.args.options ((lent c.args.out_points.now c.args.out_faces.now c.args.w.now c.args.p.now c.args.q.now)) c.walked-came.ensures) c.finished.ensures c.requires

@@ -13,12 +13,12 @@ use Rattle.thinning.proofs.thin.Goals as goal
 use Rattle.thinning.proofs.thin.Goals.{In-Copied}
 
 -- the verdict, where it is to copy
-is-copied : (c : In-Copied) → Copied ≡ verdict_of ((input_of c.args.points.now c.args.faces.now c.args.margin.now c.args.options ((lent c.args.out-points.now c.args.out-faces.now c.args.work-u32.now c.args.work-f32.now c.args.work-f64.now))))
+is-copied : (c : In-Copied) → Copied ≡ verdict_of ((input_of c.args.points.now c.args.faces.now c.args.margin.now c.args.options ((lent c.args.out_points.now c.args.out_faces.now c.args.work_u32.now c.args.work_f32.now c.args.work_f64.now))))
 is-copied c = sym c.in-Copied.is ∙ c.verdict_of.ensures
 
 pub copied-requires : goal.copied-requires
 copied-requires c =
-    measured c.args.points.now c.args.faces.now c.args.margin.now c.args.options ((lent c.args.out-points.now c.args.out-faces.now c.args.work-u32.now c.args.work-f32.now c.args.work-f64.now)) (verdicts.copied ((input_of c.args.points.now c.args.faces.now c.args.margin.now c.args.options ((lent c.args.out-points.now c.args.out-faces.now c.args.work-u32.now c.args.work-f32.now c.args.work-f64.now)))) (sym (is-copied (goal.at.copied-requires c).In-Copied))).sized
+    measured c.args.points.now c.args.faces.now c.args.margin.now c.args.options ((lent c.args.out_points.now c.args.out_faces.now c.args.work_u32.now c.args.work_f32.now c.args.work_f64.now)) (verdicts.copied ((input_of c.args.points.now c.args.faces.now c.args.margin.now c.args.options ((lent c.args.out_points.now c.args.out_faces.now c.args.work_u32.now c.args.work_f32.now c.args.work_f64.now)))) (sym (is-copied (goal.at.copied-requires c).In-Copied))).sized
 
 pub admitted-requires : goal.admitted-requires
 admitted-requires c =
@@ -26,7 +26,7 @@ admitted-requires c =
 
 pub returns-in-Refused : goal.returns-in-Refused
 returns-in-Refused c =
-    outcomes.refused c.args.engine ((input_of c.args.points.now c.args.faces.now c.args.margin.now c.args.options ((lent c.args.out-points.now c.args.out-faces.now c.args.work-u32.now c.args.work-f32.now c.args.work-f64.now)))) (sym c.in-Refused.is ∙ c.verdict_of.ensures) c.refusal.ensures
+    outcomes.refused c.args.engine ((input_of c.args.points.now c.args.faces.now c.args.margin.now c.args.options ((lent c.args.out_points.now c.args.out_faces.now c.args.work_u32.now c.args.work_f32.now c.args.work_f64.now)))) (sym c.in-Refused.is ∙ c.verdict_of.ensures) c.refusal.ensures
 
 pub shape_of-out_points-in-Copied : goal.shape_of-out_points-in-Copied
 shape_of-out_points-in-Copied c = c.out_points-1.given
@@ -45,7 +45,7 @@ shape_of-work_f64-in-Copied c = c.work_f64-1.given
 
 pub returns-in-Copied : goal.returns-in-Copied
 returns-in-Copied c =
-    outcomes.copied c.args.engine ((input_of c.args.points.now c.args.faces.now c.args.margin.now c.args.options ((lent c.args.out-points.now c.args.out-faces.now c.args.work-u32.now c.args.work-f32.now c.args.work-f64.now)))) (is-copied (goal.at.returns-in-Copied c).In-Copied) c.copied.ensures
+    outcomes.copied c.args.engine ((input_of c.args.points.now c.args.faces.now c.args.margin.now c.args.options ((lent c.args.out_points.now c.args.out_faces.now c.args.work_u32.now c.args.work_f32.now c.args.work_f64.now)))) (is-copied (goal.at.returns-in-Copied c).In-Copied) c.copied.ensures
 
 pub shape_of-out_points-in-Admitted : goal.shape_of-out_points-in-Admitted
 shape_of-out_points-in-Admitted c = c.out_points-in-Admitted-1.given

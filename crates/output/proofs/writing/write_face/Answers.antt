@@ -13,11 +13,11 @@ number_of-a-requires c =
 
 pub number_of-b-requires : goal.number_of-b-requires
 number_of-b-requires c =
-    record { fact_1 = room-then c.requires.fact_1 c.number_of_lem.ensures; fact_2 = (corners-low c.args.v c.args.face c.requires.fact_2).1; fact_3 = c.requires.fact_3; fact_4 = known-then c.requires.fact_5 c.number_of_lem.ensures }
+    record { fact_1 = room-then c.requires.fact_1 c.number_of-a.ensures; fact_2 = (corners-low c.args.v c.args.face c.requires.fact_2).1; fact_3 = c.requires.fact_3; fact_4 = known-then c.requires.fact_5 c.number_of-a.ensures }
 
 pub number_of-c-requires : goal.number_of-c-requires
 number_of-c-requires c =
-    record { fact_1 = room-then (room-then c.requires.fact_1 c.number_of_lem.ensures) c.number_of-b.ensures; fact_2 = (corners-low c.args.v c.args.face c.requires.fact_2).2; fact_3 = c.requires.fact_3; fact_4 = known-then (known-then c.requires.fact_5 c.number_of_lem.ensures) c.number_of-b.ensures }
+    record { fact_1 = room-then (room-then c.requires.fact_1 c.number_of-a.ensures) c.number_of-b.ensures; fact_2 = (corners-low c.args.v c.args.face c.requires.fact_2).2; fact_3 = c.requires.fact_3; fact_4 = known-then (known-then c.requires.fact_5 c.number_of-a.ensures) c.number_of-b.ensures }
 
 pub put_face-requires : goal.put_face-requires
 put_face-requires c =
@@ -31,8 +31,8 @@ pub shape_of-w : goal.shape_of-w
 shape_of-w c =
     c.number_of-c.ensures.but.same_length
     ∙ c.number_of-b.ensures.but.same_length
-    ∙ c.number_of_lem.ensures.but.same_length
+    ∙ c.number_of-a.ensures.but.same_length
 
 pub returns : goal.returns
 returns c =
-    face-written c.number_of_lem.ensures c.number_of-b.ensures c.number_of-c.ensures c.put_face.ensures
+    face-written c.number_of-a.ensures c.number_of-b.ensures c.number_of-c.ensures c.put_face.ensures

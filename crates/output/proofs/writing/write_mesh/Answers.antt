@@ -9,7 +9,7 @@ use Rattle.output.proofs.writing.write_mesh.Goals.{After-face_in-face}
 
 -- the turn, where the slot has been read, and that it is one of the slots
 reading : (c : After-face_in-face) →
-    Turn c.args.v c.args.f c.args.p.now c.args.w.now c.args.out-points.now c.args.out-faces.now
+    Turn c.args.v c.args.f c.args.p.now c.args.w.now c.args.out_points.now c.args.out_faces.now
     c.loop-k.w c.loop-k.out_points c.loop-k.out_faces c.loop-k.counts c.loop-k.k
 reading c = c.loop-k.invariant
 
