@@ -8,10 +8,10 @@ use Rattle.folding.proofs.TriedLaws.{tried-as}
 use Rattle.heapwalk.proofs.MemoryLaws.{pair-points, pair-differ}
 use Rattle.heapwalk.proofs.TriedLaws.{made-live, keep-rises, remove-rises, made-open, made-done, refused-done}
 use Rattle.heapwalk.proofs.try_pair.Goals as goal
-use Rattle.heapwalk.proofs.try_pair.Goals.{In-Folded-2}
+use Rattle.heapwalk.proofs.try_pair.Goals.{In-Folded}
 
 -- what the fold came to
-made : (c : In-Folded-2) → FoldTried c.args.v c.args.f c.args.bounds.limit c.args.bounds.size c.args.w.now c.args.p.now c.args.q.now c.args.fold.keep c.args.fold.remove
+made : (c : In-Folded) → FoldTried c.args.v c.args.f c.args.bounds.limit c.args.bounds.size c.args.w.now c.args.p.now c.args.q.now c.args.fold.keep c.args.fold.remove
     c.try_fold.new.w c.try_fold.new.p c.try_fold.new.q (Made c.in-Folded.gone)
 made c =
     tried-as c.in-Folded.is (c.try_fold.ensures c.args.bounds.limit c.args.bounds.size c.requires.same_place)
@@ -21,11 +21,11 @@ try_fold-requires c =
     record { fact_1 = c.requires.held.«open».tidy; fact_2 = ((pair-points c.requires).0, (pair-points c.requires).1, pair-differ c.requires); fact_3 = (omega (arith, c.requires.held.«open».queue.enough.places_long), omega (arith, c.requires.held.«open».queue.enough.costs_long)) }
 
 pub overflow_cast-keep : goal.overflow_cast-keep
-overflow_cast-keep c = omega (arith, (keep-rises c.requires (made (goal.at.overflow_cast-keep c).In-Folded-2)).0)
+overflow_cast-keep c = omega (arith, (keep-rises c.requires (made (goal.at.overflow_cast-keep c).In-Folded)).0)
 
 pub bump-requires : goal.bump-requires
 bump-requires c =
-    let rises = keep-rises c.requires (made (goal.at.bump-requires c).In-Folded-2) in
+    let rises = keep-rises c.requires (made (goal.at.bump-requires c).In-Folded) in
     record { fact_1 = rises.0; fact_2 = rises.1; fact_3 = rises.2 }
 
 pub overflow_cast-remove : goal.overflow_cast-remove
@@ -33,20 +33,20 @@ overflow_cast-remove c = omega (arith, (pair-points c.requires).1)
 
 pub bump-requires-in-Folded : goal.bump-requires-in-Folded
 bump-requires-in-Folded c =
-    let rises = remove-rises c.requires (made (goal.at.bump-requires-in-Folded c).In-Folded-2) c.bump.ensures in
+    let rises = remove-rises c.requires (made (goal.at.bump-requires-in-Folded c).In-Folded) c.bump.ensures in
     record { fact_1 = rises.0; fact_2 = rises.1; fact_3 = rises.2 }
 
 pub enter_around-more-requires : goal.enter_around-more-requires
 enter_around-more-requires c =
-    let asked = made-open c.requires (made (goal.at.enter_around-more-requires c).In-Folded-2) c.bump.ensures c.bump-in-Folded.ensures in
+    let asked = made-open c.requires (made (goal.at.enter_around-more-requires c).In-Folded) c.bump.ensures c.bump-in-Folded.ensures in
     record { fact_1 = asked.0; fact_2 = (pair-points c.requires).0; x_len_bound = asked.1 }
 
 pub overflow_sub-left : goal.overflow_sub-left
-overflow_sub-left c = omega (arith, made-live c.requires (made (goal.at.overflow_sub-left c).In-Folded-2))
+overflow_sub-left c = omega (arith, made-live c.requires (made (goal.at.overflow_sub-left c).In-Folded))
 
 pub returns-in-Folded : goal.returns-in-Folded
 returns-in-Folded c =
-    made-done c.requires (made (goal.at.returns-in-Folded c).In-Folded-2) c.bump.ensures c.bump-in-Folded.ensures
+    made-done c.requires (made (goal.at.returns-in-Folded c).In-Folded) c.bump.ensures c.bump-in-Folded.ensures
     c.enter_around-more.ensures
 
 pub returns-in-Refused : goal.returns-in-Refused
