@@ -1,6 +1,5 @@
 -- Document 01's two listings, byte for byte. The proofs compute them from the definitions.
 use Rattle.std.specs.Prelude.{ℕ, ◌≡◌, refl, List, [], ◌∷◌, ◌++◌, map}
-use Rattle.std.specs.Float.Ieee as ieee
 use Rattle.std.specs.Float.{binary32}
 use Rattle.std.specs.Float.Ieee.{span, climb, size, odd, units, round, of_fields, of_bits, to_bits}
 use Rattle.text.specs.Words.{ascii}

@@ -1,6 +1,6 @@
 -- The example square of document 01 as a file, with a fourth record and without, and small changes of it: what each is, as one list with one proof
 -- by computation.
-use Rattle.std.specs.Prelude.{ℕ, ◌+◌, ◌≡◌, refl, List, [], ◌∷◌, ◌++◌, map, true, false, take, set, pos, negsuc, Float}
+use Rattle.std.specs.Prelude.{ℕ, ◌≡◌, refl, List, [], ◌∷◌, ◌++◌, map, true, false, take, set, pos, negsuc, Float}
 use Rattle.std.specs.Float.{nan, fin}
 use Rattle.std.specs.Float.Ieee.{of_bits}
 use Rattle.units.specs.declared.Unit.TheVariants.{Millimetre, Micrometre}

@@ -1,5 +1,5 @@
 -- The writer on small examples. The proofs compute them from the definitions.
-use Rattle.std.specs.Prelude.{ℕ, ◌≡◌, refl, List, [], ◌∷◌, map, true, false, pos, Float}
+use Rattle.std.specs.Prelude.{ℕ, ◌≡◌, refl, List, [], ◌∷◌, map, true, false, pos}
 use Rattle.std.specs.Float.{nan, fin}
 use Rattle.std.specs.Float.Ieee.{size, to_bits}
 use Rattle.records.specs.Words.{as_fours}

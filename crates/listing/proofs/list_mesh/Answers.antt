@@ -1,6 +1,5 @@
 -- `listing::list_mesh` meets its contract, by the test of the room. Assumes nothing.
 use mathlib.Core.Path.{refl, sym, ◌∙◌}
-use borrow.Author.Rules.{rules}
 use Rattle.listing.proofs.TextLaws.{not-printed, all-printed, fits-bounds}
 use Rattle.listing.proofs.list_mesh.Goals as goal
 

@@ -1,5 +1,4 @@
 -- `listing::list_refusal` meets its contract, one part after another. Assumes nothing.
-use borrow.Author.Rules.{rules}
 use borrow.Author.Tests.{le-leb, lt-leb}
 use Rattle.listing.specs.Texts.{refusal_text}
 use Rattle.lists.proofs.PutLaws.{both}

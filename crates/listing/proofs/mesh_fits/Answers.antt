@@ -1,6 +1,5 @@
 -- `listing::mesh_fits` meets its contract, by the tests on the way. Assumes nothing.
 use borrow.Author.Tests.{le-leb, lt-leb}
-use borrow.Author.Rules.{rules}
 use Rattle.listing.proofs.mesh_fits.Goals as goal
 
 pub returns-then-v-gt65536 : goal.returns-then-v-gt65536

@@ -1,5 +1,4 @@
 -- `listing::put_closed` meets its contract, one part after another. Assumes nothing.
-use borrow.Author.Rules.{rules}
 use Rattle.listing.specs.Texts.{closed_text}
 use Rattle.lists.proofs.PutLaws.{both}
 use Rattle.listing.proofs.put_closed.Goals as goal

@@ -1,6 +1,5 @@
 -- `listing::put_float` meets its contract, one part after another. Assumes nothing.
 use mathlib.Core.Path.{sym}
-use borrow.Author.Rules.{rules}
 use Rattle.lists.proofs.PutLaws.{both}
 use Rattle.listing.proofs.put_float.Goals as goal
 

@@ -1,5 +1,4 @@
 -- `listing::put_head` meets its contract, one line after another. Assumes nothing.
-use borrow.Author.Rules.{rules}
 use Rattle.listing.specs.Texts.{head_text}
 use Rattle.lists.proofs.PutLaws.{both}
 use Rattle.listing.proofs.put_head.Goals as goal

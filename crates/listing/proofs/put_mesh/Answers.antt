@@ -1,5 +1,4 @@
 -- `listing::put_mesh` meets its contract, one part after another. Assumes nothing.
-use borrow.Author.Rules.{rules}
 use Rattle.listing.proofs.TextLaws.{mesh-stored}
 use Rattle.listing.proofs.put_mesh.Goals as goal
 

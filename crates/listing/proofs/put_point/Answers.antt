@@ -1,5 +1,4 @@
 -- `listing::put_point` meets its contract, one part after another. Assumes nothing.
-use borrow.Author.Rules.{rules}
 use Rattle.lists.proofs.PutLaws.{both}
 use Rattle.listing.proofs.put_point.Goals as goal
 

@@ -1,5 +1,4 @@
 -- `probes::single_cost` meets its contract. Assumes nothing.
-use borrow.Author.Rules.{rules}
 use Rattle.probes.specs.Patterns.{cost_pattern}
 use Rattle.probes.proofs.single_cost.Goals as goal
 

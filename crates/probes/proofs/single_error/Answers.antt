@@ -1,5 +1,4 @@
 -- `probes::single_error` meets its contract. Assumes nothing.
-use borrow.Author.Rules.{rules}
 use Rattle.probes.specs.Patterns.{error_pattern}
 use Rattle.probes.proofs.single_error.Goals as goal
 

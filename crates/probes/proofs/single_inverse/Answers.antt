@@ -1,6 +1,5 @@
 -- `probes::single_inverse` meets its contract. Assumes nothing.
 use mathlib.Core.Path.{◌≡◌, ap, ◌∙◌}
-use borrow.Author.Rules.{rules}
 use Rattle.probes.specs.Patterns.{inverse_of, row_bits}
 use Rattle.probes.proofs.single_inverse.Goals as goal
 use Rattle.probes.proofs.single_inverse.Goals.{After-inverse-found}

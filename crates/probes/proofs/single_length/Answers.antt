@@ -1,5 +1,4 @@
 -- `probes::single_length` meets its contract. Assumes nothing.
-use borrow.Author.Rules.{rules}
 use Rattle.probes.specs.Patterns.{length_pattern}
 use Rattle.probes.proofs.single_length.Goals as goal
 

@@ -1,5 +1,4 @@
 -- `probes::single_place` meets its contract. Assumes nothing.
-use borrow.Author.Rules.{rules}
 use Rattle.probes.specs.Patterns.{place_pattern}
 use Rattle.probes.proofs.single_place.Goals as goal
 

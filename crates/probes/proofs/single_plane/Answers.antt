@@ -1,5 +1,4 @@
 -- `probes::single_plane` meets its contract. Assumes nothing.
-use borrow.Author.Rules.{rules}
 use Rattle.probes.specs.Patterns.{plane_pattern}
 use Rattle.probes.proofs.single_plane.Goals as goal
 

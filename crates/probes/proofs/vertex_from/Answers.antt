@@ -1,5 +1,4 @@
 -- `probes::vertex_from` meets its contract. Assumes nothing.
-use borrow.Author.Rules.{rules}
 use Rattle.probes.proofs.vertex_from.Goals as goal
 
 pub returns : goal.returns

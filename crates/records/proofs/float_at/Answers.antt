@@ -1,7 +1,6 @@
 -- `records::float_at` meets its contract. Assumes nothing.
 use mathlib.Core.Path.{ap, ◌∙◌}
 use lib.Ieee.{binary32, of_bits}
-use borrow.Author.Rules.{rules}
 use Rattle.records.proofs.float_at.Goals as goal
 
 pub returns : goal.returns

@@ -1,5 +1,4 @@
 -- `records::put_four` meets its contract, one part after another. Assumes nothing.
-use borrow.Author.Rules.{rules}
 use Rattle.lists.proofs.PutLaws.{both}
 use Rattle.records.proofs.put_four.Goals as goal
 

@@ -1,5 +1,4 @@
 -- `scanfile::head_of` meets its contract: each field is what the calls read. Assumes nothing.
-use borrow.Author.Rules.{rules}
 use Rattle.scanfile.proofs.head_of.Goals as goal
 
 pub unit_of-requires : goal.unit_of-requires

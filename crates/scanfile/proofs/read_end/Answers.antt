@@ -1,5 +1,4 @@
 -- `scanfile::read_end` meets its contract: each return is a case of the definition. Assumes nothing.
-use borrow.Author.Rules.{rules}
 use Rattle.scanfile.proofs.ScanLaws.{spare-refused, all-good}
 use Rattle.scanfile.proofs.read_end.Goals as goal
 

@@ -1,13 +1,13 @@
 -- `scanfile::read_numbers` meets its contract. The loop's invariant: the first `i` numbers are written. The measure is how many are left.
 -- Assumes nothing.
-use Prim.Native.Nat.{ℕ, ◌+◌, ◌*◌, ◌-◌, ◌≤◌}
+use Prim.Native.Nat.{ℕ, ◌+◌, ◌*◌, ◌≤◌}
 use native.Mathlib.Omega.{arith}
 use mathlib.Core.Path.{ap, ◌∙◌}
 use mathlib.Core.List.{List, map-id}
 use lib.ListN.{length}
 use Rattle.records.specs.Words.{numbers_from}
 use Rattle.lists.specs.Lists.{overlaid}
-use Rattle.scanfile.proofs.ContentLaws.{Reading, start, turn, done}
+use Rattle.scanfile.proofs.ContentLaws.{start, turn, done}
 use Rattle.scanfile.proofs.read_numbers.Goals as goal
 use Rattle.scanfile.proofs.read_numbers.Goals.{In-loop-i}
 

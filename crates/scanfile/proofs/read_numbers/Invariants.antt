@@ -1,13 +1,7 @@
 -- `scanfile::read_numbers` meets its contract. The loop's invariant: the first `i` numbers are written. The measure is how many are left.
 -- Assumes nothing.
-use Prim.Native.Nat.{ℕ, ◌+◌, ◌*◌, ◌-◌, ◌≤◌}
-use native.Mathlib.Omega.{arith}
-use mathlib.Core.Path.{ap, ◌∙◌}
-use mathlib.Core.List.{List, map-id}
-use lib.ListN.{length}
-use Rattle.records.specs.Words.{numbers_from}
-use Rattle.lists.specs.Lists.{overlaid}
-use Rattle.scanfile.proofs.ContentLaws.{Reading, start, turn, done}
+use Prim.Native.Nat.{ℕ, ◌-◌}
+use Rattle.scanfile.proofs.ContentLaws.{Reading}
 use Rattle.scanfile.proofs.read_numbers.Given as goal
 
 abbrev pub invariant-loop-i : goal.invariant-loop-i

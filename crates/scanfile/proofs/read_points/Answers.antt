@@ -1,9 +1,7 @@
 -- `scanfile::read_points` meets its contract. The loop's invariant: the first `i` coordinates are written. The measure is how many are left.
 -- Assumes nothing.
-use Prim.Native.Nat.{◌*◌, ◌-◌}
 use native.Mathlib.Omega.{arith}
-use lib.Ieee.{binary32, of_bits}
-use Rattle.scanfile.proofs.ContentLaws.{Reading, start, turn, done}
+use Rattle.scanfile.proofs.ContentLaws.{start, turn, done}
 use Rattle.scanfile.proofs.read_points.Goals as goal
 
 pub loop-i-init : goal.loop-i-init

@@ -1,9 +1,8 @@
 -- `scanfile::read_points` meets its contract. The loop's invariant: the first `i` coordinates are written. The measure is how many are left.
 -- Assumes nothing.
 use Prim.Native.Nat.{◌*◌, ◌-◌}
-use native.Mathlib.Omega.{arith}
 use lib.Ieee.{binary32, of_bits}
-use Rattle.scanfile.proofs.ContentLaws.{Reading, start, turn, done}
+use Rattle.scanfile.proofs.ContentLaws.{Reading}
 use Rattle.scanfile.proofs.read_points.Given as goal
 
 abbrev pub invariant-loop-i : goal.invariant-loop-i

@@ -3,32 +3,30 @@
 use Prim.Native.Nat.{ℕ, ◌+◌}
 use native.Mathlib.Omega.{arith}
 use mathlib.Core.Path.{◌≡◌, sym, ap, ◌∙◌}
-use mathlib.Core.List.{List}
 use Rattle.scanfile.specs.Layout.{second_at, points_at, third_at}
 use Rattle.scanfile.specs.Faults.{record_fault, options_fault}
 use Rattle.scanfile.proofs.FaultLaws.{GoodRecord, passed, options-size, options-passed}
 use Rattle.scanfile.proofs.ScanLaws.{NoneRefused, first-refused, options-refused, second-refused, third-refused, three-passed}
-use borrow.Author.Rules.{rules}
 use Rattle.scanfile.proofs.read_scan.Goals as goal
 use Rattle.scanfile.proofs.read_scan.Goals.{Else-first-ne0, Else-options-ne0, Else-second-ne0, Else-third-ne0}
 
-first : (c : Else-first-ne0) → record_fault ((c.args.bytes.now)) 1 0 ≡ 0
+first : (c : Else-first-ne0) → record_fault c.args.bytes.now 1 0 ≡ 0
 first c = sym c.record_fault-first.ensures ∙ c.if-first-ne0.false
 
-options : (c : Else-options-ne0) → options_fault ((c.args.bytes.now)) ≡ 0
+options : (c : Else-options-ne0) → options_fault c.args.bytes.now ≡ 0
 options c = sym c.options_fault-options.ensures ∙ c.if-options-ne0.false
 
-second : (c : Else-second-ne0) → GoodRecord ((c.args.bytes.now)) 2 second_at
+second : (c : Else-second-ne0) → GoodRecord c.args.bytes.now 2 second_at
 second c = passed _ _ _ (sym c.record_fault-second.ensures ∙ c.if-second-ne0.false)
 
-none_refused : (c : Else-third-ne0) → NoneRefused ((c.args.bytes.now))
+none_refused : (c : Else-third-ne0) → NoneRefused c.args.bytes.now
 none_refused c =
     record {
-      first = first c.before.before.before.before.before.before.before;
-      options = options c.before.before.before.before.before;
-      second = sym c.record_fault-second.ensures ∙ c.if-second-ne0.left;
+      first = sym c.record_fault-first.ensures ∙ c.if-first-ne0.false;
+      options = sym c.options_fault-options.ensures ∙ c.if-options-ne0.false;
+      second = sym c.record_fault-second.ensures ∙ c.if-second-ne0.false;
       third =
-          ap (λ (size : ℕ). record_fault ((c.args.bytes.now)) 3 (points_at + size)) (sym c.four_bytes.ensures)
+          ap (λ (size : ℕ). record_fault c.args.bytes.now 3 (points_at + size)) (sym c.four_bytes.ensures)
           ∙ sym c.record_fault-third.ensures
           ∙ c.if-third-ne0.false;
     }

@@ -1,10 +1,8 @@
 -- `scanwriter::put_faces` meets its contract. The loop's invariant: the first i numbers are stored. The measure is how many are left.
 -- Assumes nothing.
 use Prim.Native.Nat.{◌-◌}
-use mathlib.Core.Path.{refl}
 use lib.ListN.{length}
-use borrow.Author.Rules.{rules}
-use Rattle.records.proofs.WordLaws.{FoursStored, none-stored, one-stored, all-stored}
+use Rattle.records.proofs.WordLaws.{FoursStored}
 use Rattle.scanwriter.proofs.put_faces.Given as goal
 
 abbrev pub invariant-loop-i : goal.invariant-loop-i

@@ -1,5 +1,4 @@
 -- `scanwriter::put_options` meets its contract, one part after another. Assumes nothing.
-use borrow.Author.Rules.{rules}
 use Rattle.lists.proofs.PutLaws.{both}
 use Rattle.scanwriter.proofs.put_options.Goals as goal
 

@@ -1,13 +1,10 @@
 -- `scanwriter::put_points` meets its contract. The loop's invariant: the bits of the first i coordinates are stored. The measure is how many are left.
 -- Assumes nothing.
 use Prim.Native.Nat.{◌-◌}
-use native.Mathlib.Omega.{arith}
-use mathlib.Core.Path.{◌≡◌, sym, ◌∙◌}
-use mathlib.Core.List.{List, map}
-use lib.ListN.{length, length-map, get_or-map}
-use lib.Ieee.{Float, nan, binary32, to_bits}
-use borrow.Author.Rules.{rules}
-use Rattle.records.proofs.WordLaws.{FoursStored, none-stored, one-stored, all-stored}
+use mathlib.Core.List.{map}
+use lib.ListN.{length}
+use lib.Ieee.{binary32, to_bits}
+use Rattle.records.proofs.WordLaws.{FoursStored}
 use Rattle.scanwriter.proofs.put_points.Given as goal
 
 abbrev pub invariant-loop-i : goal.invariant-loop-i

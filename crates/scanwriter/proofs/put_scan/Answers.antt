@@ -1,6 +1,5 @@
 -- `scanwriter::put_scan` meets its contract, one record after another. Assumes nothing.
 use native.Mathlib.Omega.{arith}
-use borrow.Author.Rules.{rules}
 use Rattle.units.proofs.UnitLaws.{number_short}
 use Rattle.scanwriter.proofs.WritingLaws.{scan-put}
 use Rattle.scanwriter.proofs.put_scan.Goals as goal

@@ -1,6 +1,5 @@
 -- `scanwriter::write_scan` meets its contract: what fits is written whole, and a refusal writes nothing. Assumes nothing.
-use mathlib.Core.Path.{◌≡◌, sym, ◌∙◌}
-use borrow.Author.Rules.{rules}
+use mathlib.Core.Path.{sym, ◌∙◌}
 use Rattle.scanwriter.proofs.WritingLaws.{fits, all-written, none_written}
 use Rattle.scanwriter.proofs.write_scan.Goals as goal
 

@@ -1,6 +1,4 @@
 -- `scanwriter::writing_of` meets its contract: each return is a case of the definition. Assumes nothing.
-use mathlib.Core.Path.{◌≡◌, refl}
-use borrow.Author.Rules.{rules}
 use borrow.Author.Tests.{lt-ltb, le-ltb}
 use Rattle.scanwriter.specs.Written.{writing_of}
 use Rattle.scanwriter.proofs.writing_of.Goals as goal

@@ -1,10 +1,8 @@
 -- `text::digit_count` meets its contract. The loop's invariant: the digits passed and those of what is left are those of the number.
 -- The measure is what is left of the most. Assumes nothing.
-use Prim.Native.Nat.{◌+◌, ◌-◌, ◌≤◌}
+use Prim.Native.Nat.{◌+◌, ◌-◌}
 use native.Mathlib.Omega.{arith}
 use mathlib.Core.Path.{◌≡◌, refl}
-use borrow.Author.Rules.{rules}
-use Rattle.text.specs.Digits.{digit_count}
 use Rattle.text.proofs.DigitLaws.{one_place, last-place, next_place}
 use Rattle.text.proofs.digit_count.Goals as goal
 

@@ -1,6 +1,5 @@
 -- `text::put_decimal` meets its contract: a number has at most ten digits. Assumes nothing.
 use native.Mathlib.Omega.{arith}
-use borrow.Author.Rules.{rules}
 use Rattle.text.proofs.DigitLaws.{digit-count-most, decimal-stored}
 use Rattle.text.proofs.put_decimal.Goals as goal
 

@@ -1,15 +1,10 @@
 -- `text::put_digits` meets its contract. The loop's invariant: with the digits of what is left stored too, the buffer is as it is to be.
 -- The measure is the digits left. Assumes nothing.
 use Prim.Native.Nat.{◌≤◌}
-use native.Mathlib.Nat.{mod-lt}
-use native.Mathlib.Omega.{arith}
-use mathlib.Core.Path.{◌≡◌, refl, ◌∙◌}
-use borrow.Author.Rules.{rules}
-use lib.ListN.{length, length-set}
+use mathlib.Core.Path.{◌≡◌}
+use lib.ListN.{length}
 use lib.Seq.{sets}
 use Rattle.text.specs.Digits.{digits}
-use Rattle.lists.proofs.PutLaws.{put}
-use Rattle.text.proofs.DigitLaws.{digits-length, digit-more}
 use Rattle.text.proofs.put_digits.Given as goal
 
 abbrev pub invariant-loop-i : goal.invariant-loop-i

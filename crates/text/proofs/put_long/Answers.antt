@@ -1,6 +1,5 @@
 -- `text::put_long` meets its contract: a number has at most twenty digits. Assumes nothing.
 use native.Mathlib.Omega.{arith}
-use borrow.Author.Rules.{rules}
 use Rattle.text.proofs.DigitLaws.{digit-count-most, long-stored}
 use Rattle.text.proofs.put_long.Goals as goal
 

@@ -1,5 +1,4 @@
 -- `text::put_long_number` meets its contract, one part after another. Assumes nothing.
-use borrow.Author.Rules.{rules}
 use Rattle.lists.proofs.PutLaws.{both}
 use Rattle.text.proofs.put_long_number.Goals as goal
 

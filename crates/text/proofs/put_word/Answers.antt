@@ -1,11 +1,9 @@
 -- `text::put_word` meets its contract. The loop's invariant: the first i bytes are stored.
 -- The measure is what is left of the word. Assumes nothing.
-use Prim.Native.Nat.{◌-◌, ◌≤◌}
 use native.Mathlib.Omega.{arith}
 use mathlib.Core.Path.{◌≡◌, refl}
-use borrow.Author.Rules.{rules}
-use lib.ListN.{length, take, length-set}
-use lib.Seq.{sets, take_all}
+use lib.ListN.{take, length-set}
+use lib.Seq.{take_all}
 use Rattle.lists.proofs.PutLaws.{put, word_more}
 use Rattle.text.proofs.put_word.Goals as goal
 

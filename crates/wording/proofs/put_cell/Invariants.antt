@@ -1,9 +1,8 @@
 -- `wording::put_cell` meets its contract. The loop's invariant: the first i bytes are stored, and there was no bar among them.
 -- The measure is what is left of the cell. Assumes nothing.
 use Prim.Native.Nat.{◌-◌}
-use borrow.Author.Rules.{rules}
 use lib.ListN.{length}
-use Rattle.wording.proofs.CellLaws.{Copied, copy-begins, copy_more, copy-ends, bar-here, bar-past}
+use Rattle.wording.proofs.CellLaws.{Copied}
 use Rattle.wording.proofs.put_cell.Given as goal
 
 abbrev pub invariant-loop-i : goal.invariant-loop-i

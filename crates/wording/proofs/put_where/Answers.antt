@@ -1,5 +1,4 @@
 -- `wording::put_where` meets its contract, one part after another. Assumes nothing.
-use borrow.Author.Rules.{rules}
 use Rattle.wording.proofs.MeaningLaws.{no_place, place-put}
 use Rattle.wording.proofs.put_where.Goals as goal
 

@@ -1,6 +1,5 @@
 -- `wording::put_words` meets its contract, one part after another. Assumes nothing.
 use native.Mathlib.Omega.{arith}
-use borrow.Author.Rules.{rules}
 use Rattle.lists.proofs.PutLaws.{both, wider}
 use Rattle.wording.specs.Meanings.{words_line}
 use Rattle.wording.proofs.put_words.Goals as goal

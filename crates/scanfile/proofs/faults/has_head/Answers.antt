@@ -1,6 +1,5 @@
 -- `scanfile::faults::has_head` meets its contract: each return is a case of the definition. Assumes nothing.
 use borrow.Author.Tests.{le-leb, lt-leb}
-use borrow.Author.Rules.{rules}
 use Rattle.scanfile.proofs.faults.has_head.Goals as goal
 
 pub returns-then-bytes-at : goal.returns-then-bytes-at

@@ -1,7 +1,6 @@
 -- `scanfile::faults::most_of` meets its contract: each return is a case of the definition.
 -- Assumes nothing.
 use native.Mathlib.Omega.{arith}
-use borrow.Author.Rules.{rules}
 use borrow.Author.Tests.{eq-eqb, ne_eqb}
 use Rattle.scanfile.proofs.faults.most_of.Goals as goal
 

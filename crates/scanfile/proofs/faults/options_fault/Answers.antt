@@ -2,7 +2,6 @@
 -- Assumes nothing.
 use borrow.Author.Tests.{lt-ltb, le-ltb}
 use Rattle.scanfile.specs.Faults.{options_fault}
-use borrow.Author.Rules.{rules}
 use Rattle.scanfile.proofs.faults.options_fault.Goals as goal
 
 pub returns-then-not-is_unit : goal.returns-then-not-is_unit

@@ -5,7 +5,6 @@ use mathlib.Core.Path.{◌≡◌, sym, ap, ◌∙◌}
 use Rattle.records.specs.Records.{size_at, kind_at}
 use Rattle.scanfile.specs.Faults.{wrong_size}
 use Rattle.scanfile.proofs.FaultLaws.{head-cut, kind-wrong, size-wrong, too_many, payload_cut, passes}
-use borrow.Author.Rules.{rules}
 use Rattle.scanfile.proofs.faults.record_fault.Goals as goal
 use Rattle.scanfile.proofs.faults.record_fault.Goals.{After-is_wrong_size, Else-two_bytes-kind}
 

@@ -1,5 +1,4 @@
 -- `scanfile::told::limit_pattern` meets its contract, by cases on the limit. Assumes nothing.
-use borrow.Author.Rules.{rules}
 use Rattle.scanfile.proofs.told.limit_pattern.Goals as goal
 
 pub returns-in-AtMost : goal.returns-in-AtMost

@@ -1,6 +1,5 @@
 -- `scanfile::told::tell_good` meets its contract: each cell is what the calls tell. Assumes nothing.
 use Rattle.scanfile.specs.Told.{cells_of}
-use borrow.Author.Rules.{rules}
 use Rattle.scanfile.proofs.told.tell_good.Goals as goal
 
 pub returns : goal.returns
