@@ -7,6 +7,7 @@ use mathlib.Core.Logic.{⊎_elim}
 use Rattle.memory.proofs.EntryLaws.{room-only}
 use Rattle.queue.proofs.ThrowLaws.{Gathering, gathering-none, gathering-kept, gathering-old, gathering-all, looked-named}
 use Rattle.queue.proofs.gather_current.Goals as goal
+use Rattle.queue.proofs.gather_current.Goals.{then-stays, else-stays}
 
 pub loop-i-init : goal.loop-i-init
 loop-i-init c = (search rules, gathering-none _ _ _ _ _ _)
@@ -34,10 +35,10 @@ overflow_step-i c =
 pub loop-i-preserved : goal.loop-i-preserved
 loop-i-preserved c = (
   search rules,
-  ⊎_elim
-      (λ p. rw p.1 (gathering-kept c.requires.fact_3 c.loop-i-test.true c.loop-i.invariant.1 c.entry_at-entry.ensures p.0.taken c.is_current-stays.ensures c.set_entry.ensures))
-      (λ p. rw p.1 (gathering-old c.requires.fact_3 c.loop-i-test.true c.loop-i.invariant.1 c.entry_at-entry.ensures p.0.left c.is_current-stays.ensures c.set_entry.ensures))
-      c.if-stays.branch,
+  elim c.if-stays.branch [
+    then-stays w ↦ rw w.kept-is (gathering-kept c.requires.fact_3 c.loop-i-test.true c.loop-i.invariant.1 c.entry_at-entry.ensures w.if-stays.true c.is_current-stays.ensures c.set_entry.ensures)
+  | else-stays w ↦ rw w.kept-is (gathering-old c.requires.fact_3 c.loop-i-test.true c.loop-i.invariant.1 c.entry_at-entry.ensures w.if-stays.false c.is_current-stays.ensures c.set_entry.ensures)
+  ],
 )
 
 pub shape_of-w : goal.shape_of-w

@@ -11,7 +11,7 @@ one : (c : After-lesser_of-second) → Lower ((rank_in c.args.v c.args.f c.args.
 one c = first-lower c.requires.fact_4 c.lesser_of-second.ensures
 
 two : (c : After-lesser_of-third) → Lower ((rank_in c.args.v c.args.f c.args.w.now c.args.q.now)) c.args.n c.lesser_of-second.result (4 * c.args.at + 1 + 2) c.lesser_of-third.result
-two c = first-lower {r = (rank_in c.args.v c.args.f c.args.w.now c.args.q.now)} (one c.before).within c.lesser_of-third.ensures
+two c = first-lower {r = (rank_in c.args.v c.args.f c.args.w.now c.args.q.now)} (first-lower c.requires.fact_4 c.lesser_of-second.ensures).within c.lesser_of-third.ensures
 
 pub lesser_of-third-requires : goal.lesser_of-third-requires
 lesser_of-third-requires c = record { fact_1 = c.requires.fact_1; fact_2 = c.requires.fact_2; fact_3 = c.requires.fact_3; fact_4 = (one (goal.at.lesser_of-third-requires c).After-lesser_of-second).within }

@@ -9,6 +9,8 @@ use Rattle.queue.specs.Clauses.Ranks.{over}
 use Rattle.queue.specs.Clauses.Order.{filled, ranks}
 use Rattle.queue.proofs.HeapLaws.{Rising, rising-done}
 use Rattle.queue.proofs.HoleLaws.{Moving, moving-start, moving-turn, rising-hole, rising-moved, own-lower, own-above, sunk}
+use mathlib.Core.Path.{ap}
+use mathlib.Core.Bool.{not}
 use Rattle.queue.proofs.order.rise.Goals as goal
 use Rattle.queue.proofs.order.rise.Goals.{After-comes_first}
 
@@ -38,7 +40,7 @@ returns-then-not-comes_first c =
     sunk c.loop-hole.invariant.0
     (rising-done c.loop-hole.invariant.1
     (λ above. own-above c.args.v c.args.f c.loop-hole.w c.loop-hole.p c.loop-hole.q c.loop-hole.hole c.args.entry (apart (goal.at.returns-then-not-comes_first c).After-comes_first)
-    c.ranked_of.ensures c.ranked_in.ensures c.comes_first.ensures c.if-not-comes_first.true))
+    c.ranked_of.ensures c.ranked_in.ensures c.comes_first.ensures (ap not c.if-not-comes_first.true)))
 
 pub move_entry-requires : goal.move_entry-requires
 move_entry-requires c =
@@ -51,7 +53,7 @@ pub loop-hole-preserved : goal.loop-hole-preserved
 loop-hole-preserved c =
     let lower = own-lower c.args.v c.args.f c.loop-hole.w c.loop-hole.p c.loop-hole.q c.loop-hole.hole c.args.entry (apart (goal.at.loop-hole-preserved c).After-comes_first)
     c.ranked_of.ensures c.ranked_in.ensures c.comes_first.ensures
-    c.if-not-comes_first.false in (
+    (ap not c.if-not-comes_first.false) in (
       moving-turn c.args.entry (apart (goal.at.loop-hole-preserved c).After-comes_first) c.move_entry.ensures c.loop-hole.invariant.1.within (omega arith) c.loop-hole.invariant.0,
       rising-moved c.args.entry (apart (goal.at.loop-hole-preserved c).After-comes_first) c.move_entry.ensures c.loop-hole.invariant.1 (omega arith) (λ t. over c.loop-hole.hole) lower,
     )

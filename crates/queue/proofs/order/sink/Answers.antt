@@ -8,6 +8,8 @@ use Rattle.memory.specs.Entries.{entry_in}
 use Rattle.queue.specs.Clauses.Order.{filled, ranks}
 use Rattle.queue.proofs.HeapLaws.{Sinking, sinking-done, sinking-stop}
 use Rattle.queue.proofs.HoleLaws.{Moving, moving-start, moving-turn, sinking-hole, sinking-moved, lowest-filled, there-lower, there-above, sunk}
+use mathlib.Core.Path.{ap}
+use mathlib.Core.Bool.{not}
 use Rattle.queue.proofs.order.sink.Goals as goal
 use Rattle.queue.proofs.order.sink.Goals.{After-comes_first, At-loop-hole}
 
@@ -53,7 +55,7 @@ returns-then-not-comes_first c =
     (sinking-stop c.loop-hole.invariant.1
     (lowest-filled c.args.v c.args.f c.loop-hole.w c.loop-hole.p c.loop-hole.q c.loop-hole.hole c.args.entry c.least_under-first.ensures)
     (there-above c.args.v c.args.f c.loop-hole.w c.loop-hole.p c.loop-hole.q c.loop-hole.hole c.args.entry (apart (goal.at.returns-then-not-comes_first c).After-comes_first)
-    c.ranked_of.ensures c.ranked_in.ensures c.comes_first.ensures c.if-not-comes_first.true))
+    c.ranked_of.ensures c.ranked_in.ensures c.comes_first.ensures (ap not c.if-not-comes_first.true)))
 
 pub move_entry-requires : goal.move_entry-requires
 move_entry-requires c =
@@ -67,7 +69,7 @@ pub loop-hole-preserved : goal.loop-hole-preserved
 loop-hole-preserved c =
     let lower = there-lower c.args.v c.args.f c.loop-hole.w c.loop-hole.p c.loop-hole.q c.loop-hole.hole c.args.entry (apart (goal.at.loop-hole-preserved c).After-comes_first)
     c.ranked_of.ensures c.ranked_in.ensures c.comes_first.ensures
-    c.if-not-comes_first.false in (
+    (ap not c.if-not-comes_first.false) in (
       moving-turn c.args.entry (apart (goal.at.loop-hole-preserved c).After-comes_first) c.move_entry.ensures (omega arith) c.least_under-first.ensures.within c.loop-hole.invariant.0,
       sinking-moved c.args.entry (apart (goal.at.loop-hole-preserved c).After-comes_first) c.move_entry.ensures c.loop-hole.invariant.1
           (lowest-filled c.args.v c.args.f c.loop-hole.w c.loop-hole.p c.loop-hole.q c.loop-hole.hole c.args.entry c.least_under-first.ensures) (omega (arith, lower)),
