@@ -25,27 +25,18 @@ pub try_pair-requires : goal.try_pair-requires
 try_pair-requires c =
     top-holds c.requires c.args.target c.args.bounds.limit (taken (goal.at.try_pair-requires c).After-try_pair-arg-in-Found-2-1)
 
-pub shape_of-w-in-Found : goal.shape_of-w-in-Found
-shape_of-w-in-Found c = (returns-in-Found (goal.at.shape_of-w-in-Found c).After-slice_known-in-Found-3-1).tied.within.but.same_length
-
-pub shape_of-p-in-Found : goal.shape_of-p-in-Found
-shape_of-p-in-Found c = (returns-in-Found (goal.at.shape_of-p-in-Found c).After-slice_known-in-Found-3-1).tied.within.same_length_p
-
-pub shape_of-q-in-Found : goal.shape_of-q-in-Found
-shape_of-q-in-Found c = (returns-in-Found (goal.at.shape_of-q-in-Found c).After-slice_known-in-Found-3-1).tied.within.same_length_q
-
 pub returns-in-Found : goal.returns-in-Found
 returns-in-Found c =
     taken_step c.requires c.args.target c.args.bounds.limit (taken (goal.at.returns-in-Found c).After-try_pair-arg-in-Found-2-1) (omega (arith, c.if-live-target.false)) c.try_pair.ensures
 
-pub shape_of-w-in-Empty : goal.shape_of-w-in-Empty
-shape_of-w-in-Empty c = (returns-in-Empty (goal.at.shape_of-w-in-Empty c).After-ended-in-Empty).tied.within.but.same_length
+pub shape_of-w-in-Found : goal.shape_of-w-in-Found
+shape_of-w-in-Found c = (taken_step c.requires c.args.target c.args.bounds.limit (taken (goal.at.shape_of-w-in-Found c).After-try_pair-arg-in-Found-2-1) (omega (arith, c.if-live-target.false)) c.try_pair.ensures).tied.within.but.same_length
 
-pub shape_of-p-in-Empty : goal.shape_of-p-in-Empty
-shape_of-p-in-Empty c = (returns-in-Empty (goal.at.shape_of-p-in-Empty c).After-ended-in-Empty).tied.within.same_length_p
+pub shape_of-p-in-Found : goal.shape_of-p-in-Found
+shape_of-p-in-Found c = (taken_step c.requires c.args.target c.args.bounds.limit (taken (goal.at.shape_of-p-in-Found c).After-try_pair-arg-in-Found-2-1) (omega (arith, c.if-live-target.false)) c.try_pair.ensures).tied.within.same_length_p
 
-pub shape_of-q-in-Empty : goal.shape_of-q-in-Empty
-shape_of-q-in-Empty c = (returns-in-Empty (goal.at.shape_of-q-in-Empty c).After-ended-in-Empty).tied.within.same_length_q
+pub shape_of-q-in-Found : goal.shape_of-q-in-Found
+shape_of-q-in-Found c = (taken_step c.requires c.args.target c.args.bounds.limit (taken (goal.at.shape_of-q-in-Found c).After-try_pair-arg-in-Found-2-1) (omega (arith, c.if-live-target.false)) c.try_pair.ensures).tied.within.same_length_q
 
 pub returns-in-Empty : goal.returns-in-Empty
 returns-in-Empty c =
@@ -53,3 +44,12 @@ returns-in-Empty c =
     (none_left c.requires c.args.target c.args.bounds.limit
     (took-none c.take_first.new.w c.take_first.new.p c.take_first.new.q c.in-Empty.is c.take_first.ensures)
     (omega (arith, c.if-live-target.false)))
+
+pub shape_of-w-in-Empty : goal.shape_of-w-in-Empty
+shape_of-w-in-Empty c = (none_left c.requires c.args.target c.args.bounds.limit (took-none c.take_first.new.w c.take_first.new.p c.take_first.new.q c.in-Empty.is c.take_first.ensures) (omega (arith, c.if-live-target.false))).tied.within.but.same_length
+
+pub shape_of-p-in-Empty : goal.shape_of-p-in-Empty
+shape_of-p-in-Empty c = (none_left c.requires c.args.target c.args.bounds.limit (took-none c.take_first.new.w c.take_first.new.p c.take_first.new.q c.in-Empty.is c.take_first.ensures) (omega (arith, c.if-live-target.false))).tied.within.same_length_p
+
+pub shape_of-q-in-Empty : goal.shape_of-q-in-Empty
+shape_of-q-in-Empty c = (none_left c.requires c.args.target c.args.bounds.limit (took-none c.take_first.new.w c.take_first.new.p c.take_first.new.q c.in-Empty.is c.take_first.ensures) (omega (arith, c.if-live-target.false))).tied.within.same_length_q
