@@ -9,15 +9,6 @@ pub lay_quadrics-requires : goal.lay_quadrics-requires
 lay_quadrics-requires c = let held = quadrics-asked c.requires c.lay_faces.ensures c.mark_kinds-fixed.ensures.kinded c.lay_points.ensures in
     record { fact_1 = held.0; fact_2 = held.1.0; fact_3 = held.1.1.0; fact_4 = held.1.1.1 }
 
-pub shape_of-w : goal.shape_of-w
-shape_of-w c = c.w-2-1.given ∙ c.w-1.given
-
-pub shape_of-p : goal.shape_of-p
-shape_of-p c = c.p-1.given
-
-pub shape_of-q : goal.shape_of-q
-shape_of-q c = c.q-1.given
-
 pub returns : goal.returns
 returns c =
     laid_out c.requires c.lay_faces.ensures c.mark_kinds-fixed.ensures.kinded c.lay_points.ensures

@@ -33,18 +33,6 @@ list_folds-requires c =
     let walked = rw c.bounds_of-bounds.ensures at c.walk_by-walked.ensures in
     record { fact_1 = walked.done.tidy.room; fact_2 = folds_few ((input_walked c.args.points.now c.args.faces.now c.args.margin.now c.args.options)) (aim (goal.at.list_folds-requires c).After-laid_out-fixed) c.laid_out-fixed.ensures walked }
 
-pub shape_of-w : goal.shape_of-w
-shape_of-w c = c.w-2-1.given ∙ c.w-1.given
-
-pub shape_of-p : goal.shape_of-p
-shape_of-p c = c.p-2-1.given ∙ c.p-1.given
-
-pub shape_of-q : goal.shape_of-q
-shape_of-q c = c.q-2-1.given ∙ c.q-1.given
-
-pub shape_of-folds : goal.shape_of-folds
-shape_of-folds c = c.folds-1.given
-
 pub returns : goal.returns
 returns c =
     mesh-walked ((input_walked c.args.points.now c.args.faces.now c.args.margin.now c.args.options)) (aim (goal.at.returns c).After-laid_out-fixed) c.laid_out-fixed.ensures (rw c.bounds_of-bounds.ensures at c.walk_by-walked.ensures) c.args.folds.now c.list_folds.ensures
