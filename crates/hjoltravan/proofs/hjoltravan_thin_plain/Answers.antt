@@ -5,21 +5,6 @@ use Rattle.meaning.specs.Call.{lent, input_of}
 use Rattle.hjoltravan.proofs.CallLaws.{called}
 use Rattle.hjoltravan.proofs.hjoltravan_thin_plain.Goals as goal
 
-pub shape_of-out_points : goal.shape_of-out_points
-shape_of-out_points c = c.out_points-1.given
-
-pub shape_of-out_faces : goal.shape_of-out_faces
-shape_of-out_faces c = c.out_faces-1.given
-
-pub shape_of-work_u32 : goal.shape_of-work_u32
-shape_of-work_u32 c = c.work_u32-1.given
-
-pub shape_of-work_f32 : goal.shape_of-work_f32
-shape_of-work_f32 c = c.work_f32-1.given
-
-pub shape_of-work_f64 : goal.shape_of-work_f64
-shape_of-work_f64 c = c.work_f64-1.given
-
 pub returns : goal.returns
 returns c =
     called (λ options. input_of c.args.points.now c.args.faces.now c.args.margin.now options (lent c.args.out_points.now c.args.out_faces.now c.args.work_u32.now c.args.work_f32.now c.args.work_f64.now))

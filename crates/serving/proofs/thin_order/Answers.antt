@@ -10,21 +10,6 @@ pub tell_at-requires : goal.tell_at-requires
 tell_at-requires c =
     record { fact_1 = c.requires.answer; fact_2 = c.requires.closed }
 
-pub shape_of-work_u32 : goal.shape_of-work_u32
-shape_of-work_u32 c = c.work_u32-1.given
-
-pub shape_of-work_f32 : goal.shape_of-work_f32
-shape_of-work_f32 c = c.work_f32-1.given
-
-pub shape_of-work_f64 : goal.shape_of-work_f64
-shape_of-work_f64 c = c.work_f64-1.given
-
-pub shape_of-answers : goal.shape_of-answers
-shape_of-answers c = c.answers-1.given
-
-pub shape_of-closed : goal.shape_of-closed
-shape_of-closed c = c.closed-1.given
-
 pub returns : goal.returns
 returns c =
     order-done (sources c.args.points.now c.args.faces.now c.args.margins.now) c.args.order c.args.place

@@ -24,24 +24,6 @@ finished-requires c =
     finish-asked ((input_of c.args.points.now c.args.faces.now c.args.margin.now c.args.options ((lent c.args.out_points.now c.args.out_faces.now c.args.w.now c.args.p.now c.args.q.now)))) (same-walk c.args.points.now c.args.faces.now c.args.margin.now c.args.options ((lent c.args.out_points.now c.args.out_faces.now c.args.w.now c.args.p.now c.args.q.now)) c.walked-came.ensures) sized.room_points sized.room_faces
     (ready c.args.points.now c.args.faces.now c.args.margin.now c.args.options ((lent c.args.out_points.now c.args.out_faces.now c.args.w.now c.args.p.now c.args.q.now)) (fine (goal.at.finished-requires c).Start)).working
 
-pub shape_of-out_points : goal.shape_of-out_points
-shape_of-out_points c = c.out_points-1.given
-
-pub shape_of-out_faces : goal.shape_of-out_faces
-shape_of-out_faces c = c.out_faces-1.given
-
-pub shape_of-w : goal.shape_of-w
-shape_of-w c = c.w-2-1.given ∙ c.w-1.given
-
-pub shape_of-p : goal.shape_of-p
-shape_of-p c = c.p-2-1.given ∙ c.p-1.given
-
-pub shape_of-q : goal.shape_of-q
-shape_of-q c = c.q-2-1.given ∙ c.q-1.given
-
-pub shape_of-folds : goal.shape_of-folds
-shape_of-folds c = c.folds-1.given
-
 pub returns : goal.returns
 returns c =
     thinned-by ((input_of c.args.points.now c.args.faces.now c.args.margin.now c.args.options ((lent c.args.out_points.now c.args.out_faces.now c.args.w.now c.args.p.now c.args.q.now)))) (same-walk c.args.points.now c.args.faces.now c.args.margin.now c.args.options ((lent c.args.out_points.now c.args.out_faces.now c.args.w.now c.args.p.now c.args.q.now)) c.walked-came.ensures) c.finished.ensures c.requires

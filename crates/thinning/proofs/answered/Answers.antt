@@ -19,15 +19,6 @@ overflow_cast-result-2 c = live-fits c.requires.fact_1 c.write_mesh-counts.ensur
 pub overflow_cast-result-3 : goal.overflow_cast-result-3
 overflow_cast-result-3 c = below-fits c.requires.fact_5.1 c.requires.fact_1.room.faces_few
 
-pub shape_of-w : goal.shape_of-w
-shape_of-w c = c.w-1.given
-
-pub shape_of-out_points : goal.shape_of-out_points
-shape_of-out_points c = c.out_points-1.given
-
-pub shape_of-out_faces : goal.shape_of-out_faces
-shape_of-out_faces c = c.out_faces-1.given
-
 pub returns : goal.returns
 returns c =
     rw c.if-came-f.false (written-finished c.args.came.folds c.args.came.closed c.write_mesh-counts.ensures)

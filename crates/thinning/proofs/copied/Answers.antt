@@ -13,21 +13,6 @@ overflow_cast-result c = points_fit c.requires.working.u32s.points_few
 pub overflow_cast-result-2 : goal.overflow_cast-result-2
 overflow_cast-result-2 c = few-fits c.requires.working.u32s.faces_few
 
-pub shape_of-out_points : goal.shape_of-out_points
-shape_of-out_points c = c.out_points-1.given
-
-pub shape_of-out_faces : goal.shape_of-out_faces
-shape_of-out_faces c = c.out_faces-1.given
-
-pub shape_of-w : goal.shape_of-w
-shape_of-w c = c.w-1.given
-
-pub shape_of-p : goal.shape_of-p
-shape_of-p c = c.p-1.given
-
-pub shape_of-q : goal.shape_of-q
-shape_of-q c = c.q-1.given
-
 pub returns : goal.returns
 returns c =
     record {

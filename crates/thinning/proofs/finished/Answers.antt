@@ -13,21 +13,6 @@ pub clear-requires : goal.clear-requires
 clear-requires c =
     clear-asked c.requires.working c.answered-answer.ensures
 
-pub shape_of-out_points : goal.shape_of-out_points
-shape_of-out_points c = c.out_points-1.given
-
-pub shape_of-out_faces : goal.shape_of-out_faces
-shape_of-out_faces c = c.out_faces-1.given
-
-pub shape_of-w : goal.shape_of-w
-shape_of-w c = c.w-2-1.given ∙ c.w-1.given
-
-pub shape_of-p : goal.shape_of-p
-shape_of-p c = c.p-1.given
-
-pub shape_of-q : goal.shape_of-q
-shape_of-q c = c.q-1.given
-
 pub returns : goal.returns
 returns c =
     left c.args.came c.answered-answer.ensures c.clear.ensures

@@ -28,42 +28,9 @@ pub returns-in-Refused : goal.returns-in-Refused
 returns-in-Refused c =
     outcomes.refused c.args.engine ((input_of c.args.points.now c.args.faces.now c.args.margin.now c.args.options ((lent c.args.out_points.now c.args.out_faces.now c.args.work_u32.now c.args.work_f32.now c.args.work_f64.now)))) (sym c.in-Refused.is ∙ c.verdict_of.ensures) c.refusal.ensures
 
-pub shape_of-out_points-in-Copied : goal.shape_of-out_points-in-Copied
-shape_of-out_points-in-Copied c = c.out_points-1.given
-
-pub shape_of-out_faces-in-Copied : goal.shape_of-out_faces-in-Copied
-shape_of-out_faces-in-Copied c = c.out_faces-1.given
-
-pub shape_of-work_u32-in-Copied : goal.shape_of-work_u32-in-Copied
-shape_of-work_u32-in-Copied c = c.work_u32-1.given
-
-pub shape_of-work_f32-in-Copied : goal.shape_of-work_f32-in-Copied
-shape_of-work_f32-in-Copied c = c.work_f32-1.given
-
-pub shape_of-work_f64-in-Copied : goal.shape_of-work_f64-in-Copied
-shape_of-work_f64-in-Copied c = c.work_f64-1.given
-
 pub returns-in-Copied : goal.returns-in-Copied
 returns-in-Copied c =
     outcomes.copied c.args.engine ((input_of c.args.points.now c.args.faces.now c.args.margin.now c.args.options ((lent c.args.out_points.now c.args.out_faces.now c.args.work_u32.now c.args.work_f32.now c.args.work_f64.now)))) (is-copied (goal.at.returns-in-Copied c).In-Copied) c.copied.ensures
-
-pub shape_of-out_points-in-Admitted : goal.shape_of-out_points-in-Admitted
-shape_of-out_points-in-Admitted c = c.out_points-in-Admitted-1.given
-
-pub shape_of-out_faces-in-Admitted : goal.shape_of-out_faces-in-Admitted
-shape_of-out_faces-in-Admitted c = c.out_faces-in-Admitted-1.given
-
-pub shape_of-work_u32-in-Admitted : goal.shape_of-work_u32-in-Admitted
-shape_of-work_u32-in-Admitted c = c.work_u32-in-Admitted-1.given
-
-pub shape_of-work_f32-in-Admitted : goal.shape_of-work_f32-in-Admitted
-shape_of-work_f32-in-Admitted c = c.work_f32-in-Admitted-1.given
-
-pub shape_of-work_f64-in-Admitted : goal.shape_of-work_f64-in-Admitted
-shape_of-work_f64-in-Admitted c = c.work_f64-in-Admitted-1.given
-
-pub shape_of-folds : goal.shape_of-folds
-shape_of-folds c = c.folds-1.given
 
 pub returns-in-Admitted : goal.returns-in-Admitted
 returns-in-Admitted c = c.admitted.ensures
