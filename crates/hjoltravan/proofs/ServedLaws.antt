@@ -11,6 +11,8 @@ use native.Mathlib.Nat.{not-suc-le-zero, lt_irrefl, le-add_right, mul-suc}
 use lib.Dec.{ltb, leb}
 use lib.ListN.{length, get_or, drop}
 use lib.Ieee.{Float}
+use Rattle.std.proofs.Common.{add-one}
+use Rattle.std.proofs.lemmas.List.{get_or_default}
 use borrow.Author.Tests.{ltb-true, ltb-false, leb-false}
 use Rattle.geometry.specs.Constants.{nought}
 use Rattle.meaning.specs.declared.Options.{Options}
@@ -22,7 +24,7 @@ use Rattle.thinning.specs.Told.{five_of, by_reason}
 use Rattle.orders.specs.declared.Part.{Part}
 use Rattle.orders.specs.declared.Order.{Order}
 use Rattle.orders.specs.Parts.{cells_of, replaced}
-use Rattle.orders.specs.Orders.{order_at}
+use Rattle.orders.specs.Orders.{no_order, order_at}
 use Rattle.serving.specs.Desks.{Sources, Desk, buffers_of, five_at, three_at, lent_to, input_for}
 use Rattle.orders.specs.Refused.{refused, share}
 use Rattle.serving.specs.Clauses.{AsLong, Fits, OrderDone, OrdersDone, none_yet, one_more}
@@ -241,6 +243,21 @@ module _ (s : Sources) (orders : List Order) (before : Desk) (fine : refused ord
         answers_else = all.answers_else;
         closed_else = all.closed_else;
       }
+
+-- ---- the walk over the orders: an order that is read with any other default is the one at its place
+
+-- after the first k orders the next one fits
+pub ready : (orders : List Order) (s : Sources) {before d : Desk} {k : ℕ} (past : Order) → refused orders (buffers_of s before) ≡ false → k < length orders →
+    OrdersDone s orders before k d → Fits s (get_or orders k past) k d
+ready orders s {before} {d} {k} past fine less done =
+    let so_far = so-far-done s orders before fine (omega (arith, less)) done in
+    rw (get_or_default orders k past no_order less) (fine-fits s orders before fine k less d so_far.as_long so_far.answers_else.as_long so_far.closed_else.as_long)
+
+-- and once it is done, one order more is
+pub ready-next : (orders : List Order) (s : Sources) {before d d' : Desk} {k : ℕ} (past : Order) → k < length orders → OrdersDone s orders before k d →
+    OrderDone s (get_or orders k past) k d d' → OrdersDone s orders before (k + 1) d'
+ready-next orders s {k = k} past less done last =
+    rw (add-one k) (one_more done (rw (get_or_default orders k past no_order less) at last))
 
 -- ---- the two ends of a call
 pub called-turned-away : (orders : List Order) (s : Sources) (before : Desk) → refused orders (buffers_of s before) ≡ true → CalledForOrders orders s before before 41
