@@ -3,7 +3,7 @@
 use Rattle.std.proofs.Common.{◌≡◌, ℕ, zero, suc, ◌+◌, ◌-◌, ◌*◌, ◌/◌, ◌%◌, ◌^◌, ◌<◌, ◌≤◌, Bool, true, false, not, ◌&&◌, T, eqb, ltb, leb, ℤ, sym, refl, ap, ◌∙◌, subst, ⊎_elim, true≢false, le_trans, le_of_eq, lt_of_lt_of_le, lt_of_le_of_lt, mul-le-mul_right, mul_assoc, mul_comm, div-lt_iff_lt-mul, mul-lt-mul_of_pos_right, mul-pos, pow-suc, zero-mul, mul-one, mul_right_comm, mul_left_comm, arith, lit≤, ltb→lt, pow_pos, pow-add, ltb-false, ltb-true, le-ltb, lt-ltb}
 use native.Mathlib.Nat.{mul-mul-mul_comm}
 use mathlib.Core.Bool.{false≢true}
-use lib.Ieee.{Float, nan, inf, fin, Format, binary32, low, up, down, size, round, mul, lt, le, fits, is_nan, of_bits, to_bits, nan_bits, ones, hid, top}
+use lib.Ieee.{Float, nan, inf, fin, Format, binary32, up, down, size, round, mul, lt, le, fits, is_nan, of_bits, to_bits, nan_bits, ones, hid, top}
 use lib.Ieee.Digits.{size-le}
 use lib.Ieee.Fits.{down_pos, kept-lt, and_r, round-fits, mul-fits}
 use lib.Ieee.Exact.{HasValue, round_exact}

@@ -1,5 +1,5 @@
 -- The statement speaks of the floats that the code computes with: a finite pattern at or above +0 is the number `steps` of 2^-149.
-use Rattle.std.proofs.Common.{◌≡◌, ℕ, suc, ◌+◌, ◌-◌, ◌*◌, ◌/◌, ◌%◌, ◌^◌, ◌<◌, ◌≤◌, false, ◌⊎◌, sym, subst, inl, inr, le_of_lt, mul-one, arith, ne_eqb}
+use Rattle.std.proofs.Common.{◌≡◌, ℕ, suc, ◌+◌, ◌*◌, ◌/◌, ◌%◌, ◌^◌, ◌<◌, ◌≤◌, false, ◌⊎◌, sym, subst, inl, inr, le_of_lt, mul-one, arith, ne_eqb}
 use lib.Ieee.{binary32, odd, of_fields, of_bits}
 use lib.Ieee.Exact.{HasValue, odd_sign}
 use borrow.Author.Tests.{lt-leb}

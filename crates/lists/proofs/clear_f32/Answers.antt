@@ -1,11 +1,10 @@
 -- `lists::clear_f32` meets its contract. The loop's invariant: the cells below `i` are set.
 -- The measure is what is left of `n`. Assumes nothing.
-use Prim.Native.Nat.{◌≤◌, ◌-◌}
 use native.Mathlib.Omega.{arith}
-use mathlib.Core.Path.{◌≡◌, refl}
+use mathlib.Core.Path.{refl}
 use lib.Ieee.{binary32, of_bits}
-use lib.ListN.{length, length-set}
-use Rattle.lists.proofs.OverlayLaws.{cleared, clear-more, clear-all}
+use lib.ListN.{length-set}
+use Rattle.lists.proofs.OverlayLaws.{clear-more, clear-all}
 use Rattle.lists.proofs.clear_f32.Goals as goal
 
 pub loop-i-init : goal.loop-i-init

@@ -1,10 +1,9 @@
 -- `lists::clear_u32` meets its contract. The loop's invariant: the cells below `i` are set.
 -- The measure is what is left of `n`. Assumes nothing.
 use Prim.Native.Nat.{◌≤◌, ◌-◌}
-use native.Mathlib.Omega.{arith}
-use mathlib.Core.Path.{◌≡◌, refl}
-use lib.ListN.{length, length-set}
-use Rattle.lists.proofs.OverlayLaws.{cleared, clear-more, clear-all}
+use mathlib.Core.Path.{◌≡◌}
+use lib.ListN.{length}
+use Rattle.lists.proofs.OverlayLaws.{cleared}
 use Rattle.lists.proofs.clear_u32.Given as goal
 
 abbrev pub invariant-loop-i : goal.invariant-loop-i

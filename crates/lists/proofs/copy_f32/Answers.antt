@@ -1,10 +1,9 @@
 -- `lists::copy_f32` meets its contract. The loop's invariant: the cells below `i` are copied.
 -- The measure is what is left of the list. Assumes nothing.
-use Prim.Native.Nat.{◌≤◌, ◌-◌}
 use native.Mathlib.Omega.{arith}
-use mathlib.Core.Path.{◌≡◌, refl}
-use lib.ListN.{length, length-set}
-use Rattle.lists.proofs.OverlayLaws.{copied, copy_more, copy-all}
+use mathlib.Core.Path.{refl}
+use lib.ListN.{length-set}
+use Rattle.lists.proofs.OverlayLaws.{copy_more, copy-all}
 use Rattle.lists.proofs.copy_f32.Goals as goal
 
 pub loop-i-init : goal.loop-i-init

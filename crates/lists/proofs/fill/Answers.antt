@@ -1,8 +1,6 @@
 -- `lists::fill` meets its contract. The loop's invariant: the first `i` cells of the stretch are written.
 -- The measure is what is left of `n`. Assumes nothing.
-use Prim.Native.Nat.{◌≤◌, ◌-◌}
 use native.Mathlib.Omega.{arith}
-use Rattle.lists.specs.Frames.{Written}
 use Rattle.lists.proofs.WrittenLaws.{written_none, written-more, written_all}
 use Rattle.lists.proofs.fill.Goals as goal
 

@@ -1,5 +1,4 @@
 -- `placement::is_above` meets its contract, in each case of the limit. Assumes nothing.
-use borrow.Author.Rules.{rules}
 use Rattle.placement.proofs.is_above.Goals as goal
 
 pub returns-in-AtMost : goal.returns-in-AtMost

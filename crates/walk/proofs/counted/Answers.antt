@@ -1,7 +1,6 @@
 -- `walk::counted` meets its contract: the count of the reason's kind grows by one, and the others stay.
 -- Assumes nothing.
 use native.Mathlib.Nat.{add-zero}
-use borrow.Author.Rules.{rules}
 use Rattle.walk.proofs.counted.Goals as goal
 
 pub returns-in-NotLinked : goal.returns-in-NotLinked

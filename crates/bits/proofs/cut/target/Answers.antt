@@ -1,5 +1,5 @@
 -- `bits::cut::target` is the definition, step for step: the product that the code works out is the one that is cut.
-use Rattle.std.proofs.Common.{◌≡◌, ℕ, pos, refl, ◌∙◌, rules}
+use Rattle.std.proofs.Common.{◌≡◌, ℕ, pos, refl, ◌∙◌}
 use lib.Ieee.{Float, binary32, of_bits, of_int, sub, mul}
 use Rattle.bits.specs.Cut.{cut, target}
 use Rattle.bits.proofs.cut.target.Goals as goal

@@ -1,6 +1,6 @@
 -- `bits::narrow::exponent_of` meets its contract: the field has eleven bits, so that its difference with 1023 fits an i64, which keeps it
 -- (`exponent-fits`, `kept`). Assumes nothing.
-use Rattle.std.proofs.Common.{refl, arith, w64, rules}
+use Rattle.std.proofs.Common.{refl, arith, w64}
 use mir.ValLaws.{to_z_pos}
 use Rattle.bits.specs.Clauses.{field, exponent_for}
 use Rattle.bits.proofs.SignedExponent.{exponent-fits, kept}

@@ -1,5 +1,5 @@
 -- `bits::narrow::narrow` meets its contract: what is read from the narrowed pattern is the narrowed value. Assumes nothing.
-use Rattle.std.proofs.Common.{T, sym, subst, rules}
+use Rattle.std.proofs.Common.{T, sym, subst}
 use Rattle.bits.proofs.NarrowLaws.{narrowed-is}
 use Rattle.bits.proofs.narrow.narrow.Goals as goal
 

@@ -12,8 +12,8 @@ tiny : (c : Then-exponent-lt0) → field c.args.b < 1023 - 150
 tiny c =
     let below : field c.args.b < 1023 = is_below c.args.b c.args.exponent c.requires.1 1023 c.if-exponent-lt0.true in
     elim c.else-exponent-geminus150.branch [
-      else-exponent-geminus150-via-then-exponent-geminus150+else-exponent-ltminus126 w ↦ ⊎_elim (λ l. omega (arith, not-below c.args.b c.args.exponent c.requires.1 (1023 - 126) w.if-exponent-ltminus126.false)) (λ l. omega arith) c.requires.0
-    | else-exponent-geminus150-via-else-exponent-geminus150 w ↦ not-from c.args.b c.args.exponent c.requires.1 (1023 - 150) w.if-exponent-geminus150.false
+      | else-exponent-geminus150-via-then-exponent-geminus150+else-exponent-ltminus126 w ↦ ⊎_elim (λ l. omega (arith, not-below c.args.b c.args.exponent c.requires.1 (1023 - 126) w.if-exponent-ltminus126.false)) (λ l. omega arith) c.requires.0
+      | else-exponent-geminus150-via-else-exponent-geminus150 w ↦ not-from c.args.b c.args.exponent c.requires.1 (1023 - 150) w.if-exponent-geminus150.false
     ]
 
 pub narrow_subnormal-requires : goal.narrow_subnormal-requires

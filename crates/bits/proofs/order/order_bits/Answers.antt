@@ -1,6 +1,6 @@
 -- `bits::order::order_bits` gives the key of every pattern. The branch is the test of `order_key`, and each side is read as a signed number:
 -- m itself, and !m as `negsuc m`, which is -1 - m.
-use Rattle.std.proofs.Common.{◌≡◌, ℕ, suc, ◌-◌, ◌^◌, ◌<◌, negsuc, ◌∙◌, arith, w64, to_z, rules, le-ltb, lt-ltb}
+use Rattle.std.proofs.Common.{◌≡◌, ℕ, suc, ◌-◌, ◌^◌, ◌<◌, negsuc, ◌∙◌, arith, w64, to_z, le-ltb, lt-ltb}
 use mir.Facts.{to_z_pos, to_z-neg}
 use Rattle.bits.specs.Order.{order_key}
 use Rattle.bits.proofs.order.order_bits.Goals as goal

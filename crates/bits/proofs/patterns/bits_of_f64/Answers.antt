@@ -1,5 +1,4 @@
 -- `bits::patterns::bits_of_f64` meets its contract. Assumes nothing.
-use Rattle.std.proofs.Common.{rules}
 use lib.Ieee.{binary64, to_bits}
 use Rattle.bits.proofs.NotANumber.{equals_itself, nan-written}
 use Rattle.bits.proofs.patterns.bits_of_f64.Goals as goal

@@ -1,5 +1,5 @@
 -- `bits::patterns::f64_of` meets its contract. Assumes nothing.
-use Rattle.std.proofs.Common.{sym, ◌∙◌, rules}
+use Rattle.std.proofs.Common.{sym, ◌∙◌}
 use lib.Ieee.{binary64}
 use Rattle.bits.proofs.NotANumber.{zero_by_zero, nan-above, number-below}
 use Rattle.bits.proofs.patterns.f64_of.Goals as goal

@@ -1,6 +1,6 @@
 -- `bits::root::corrected` meets its contract. The way down keeps the guess in range and ends with the half-way point below it, squared, under n.
 -- The way up keeps that, and ends with the one above it over n. Assumes nothing.
-use Rattle.std.proofs.Common.{◌+◌, ◌-◌, ◌*◌, ◌<◌, ◌≤◌, mul-le-mul_right, arith}
+use Rattle.std.proofs.Common.{mul-le-mul_right, arith}
 use Rattle.bits.proofs.RootScaled.{root-high, square-next}
 use Rattle.bits.proofs.root.corrected.Goals as goal
 

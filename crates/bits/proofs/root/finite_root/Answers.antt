@@ -1,5 +1,5 @@
 -- `bits::root::finite_root` meets its contract: a finite pattern by the statement, which has one answer. Assumes nothing.
-use Rattle.std.proofs.Common.{◌<◌, sym, ap, ◌∙◌, ⊎_elim, arith, rules}
+use Rattle.std.proofs.Common.{◌<◌, sym, ap, ◌∙◌, arith}
 use Rattle.bits.specs.Root.{finite_root}
 use Rattle.bits.specs.Clauses.{Raised}
 use Rattle.bits.proofs.RootLaws.{root-of-zero, nearest-is-root}
@@ -11,8 +11,8 @@ use Rattle.bits.proofs.root.finite_root.Goals.{Joined-b-lt8388608, then-b-lt8388
 raised : (c : Joined-b-lt8388608) → (c.if-b-lt8388608.x < 0xc000_0000) × Raised c.args.b c.if-b-lt8388608.x
 raised c =
     elim c.if-b-lt8388608.branch [
-      then-b-lt8388608+else-b-eq0 w ↦ rw w.x-is w.raised_low-x.ensures
-    | else-b-lt8388608 w ↦ rw w.x-is (omega arith, raised-normal c.args.b (omega arith))
+      | then-b-lt8388608+else-b-eq0 w ↦ rw w.x-is w.raised_low-x.ensures
+      | else-b-lt8388608 w ↦ rw w.x-is (omega arith, raised-normal c.args.b (omega arith))
     ]
 
 pub returns-then-b-eq0 : goal.returns-then-b-eq0

@@ -1,5 +1,5 @@
 -- `bits::root::first_guess` is safe, and its result is in range. How near it is isn't shown. Assumes nothing.
-use Rattle.std.proofs.Common.{◌+◌, ◌*◌, arith, rules}
+use Rattle.std.proofs.Common.{◌+◌, ◌*◌, arith}
 use Rattle.bits.proofs.TableLaws.{entry-small}
 use Rattle.bits.proofs.GuessLaws.{Small, small, guess_small}
 use Rattle.bits.proofs.root.first_guess.Goals as goal

@@ -1,5 +1,5 @@
 -- `bits::root::raised_low` meets its contract: the shifted digits and the lowered field are the pattern's number. Assumes nothing.
-use Rattle.std.proofs.Common.{◌≡◌, ◌+◌, ◌-◌, ◌*◌, ◌/◌, ◌%◌, ◌^◌, mod-eq_of_lt, arith, rules}
+use Rattle.std.proofs.Common.{◌≡◌, ◌+◌, ◌-◌, ◌*◌, ◌/◌, ◌%◌, ◌^◌, mod-eq_of_lt, arith}
 use Rattle.bits.proofs.RootScaled.{subnormal-number}
 use Rattle.bits.proofs.root.raised_low.Goals as goal
 

@@ -1,6 +1,6 @@
 -- `bits::root::raised_root` meets its contract: the number that it takes the root of is in range (`Shifted`), and the check of its root is the statement.
 -- Assumes nothing.
-use Rattle.std.proofs.Common.{◌≡◌, ℕ, ◌*◌, ◌/◌, ◌%◌, ◌^◌, arith, rules}
+use Rattle.std.proofs.Common.{◌≡◌, ℕ, ◌*◌, ◌/◌, ◌%◌, ◌^◌, arith}
 use Rattle.bits.proofs.RootSteps.{significand}
 use Rattle.bits.proofs.RootScaled.{Shifted, shifted, root-high, nearest-of-shifted}
 use Rattle.bits.proofs.root.raised_root.Goals as goal

@@ -1,5 +1,5 @@
 -- `bits::root::root` meets its contract: the root of a float is that of its pattern. Assumes nothing.
-use Rattle.std.proofs.Common.{ap, ◌∙◌, rules}
+use Rattle.std.proofs.Common.{ap, ◌∙◌}
 use lib.Ieee.{binary32, of_bits}
 use Rattle.bits.specs.Root.{root_bits, root}
 use Rattle.bits.proofs.root.root.Goals as goal

@@ -1,6 +1,6 @@
 -- `bits::root::root_bits` meets its contract, case by case: a finite pattern by `finite_root`; the others are tests.
 -- Assumes nothing.
-use Rattle.std.proofs.Common.{sym, ap, ◌∙◌, arith, rules}
+use Rattle.std.proofs.Common.{sym, ap, ◌∙◌, arith}
 use Rattle.bits.specs.Root.{root_bits}
 use Rattle.bits.proofs.RootLaws.{root_bits-finite, root_bits-other}
 use Rattle.bits.proofs.root.root_bits.Goals as goal

@@ -1,7 +1,6 @@
 -- `memory::entries::entry_at` meets its contract: each part is what was read of it.
 -- Assumes nothing.
 use mathlib.Core.Path.{refl}
-use borrow.Author.Rules.{rules}
 use Rattle.memory.proofs.EntryLaws.{entry-path}
 use Rattle.memory.proofs.entries.entry_at.Goals as goal
 

@@ -1,7 +1,6 @@
 -- `memory::entries::set_entry` meets its contract: its numbers, its place and its cost are written, each into its own cells.
 -- Assumes nothing.
 use mathlib.Core.Path.{refl}
-use borrow.Author.Rules.{rules}
 use Rattle.memory.proofs.EntryLaws.{entry_set}
 use Rattle.memory.proofs.entries.set_entry.Goals as goal
 

@@ -1,7 +1,6 @@
 -- `memory::entries::set_two` meets its contract: the first write changes no length. Assumes nothing.
 use native.Mathlib.Omega.{arith}
 use lib.ListN.{length-set}
-use borrow.Author.Rules.{rules}
 use Rattle.memory.proofs.entries.set_two.Goals as goal
 
 pub bounds-w-j : goal.bounds-w-j

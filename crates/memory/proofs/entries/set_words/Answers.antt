@@ -3,7 +3,6 @@
 use native.Mathlib.Omega.{arith}
 use native.Mathlib.Numerals.{towards_suc}
 use lib.ListN.{length-set}
-use borrow.Author.Rules.{rules}
 use Rattle.memory.proofs.entries.set_words.Goals as goal
 
 pub bounds-w-at-2 : goal.bounds-w-at-2

@@ -1,6 +1,5 @@
 -- `memory::points::set_five` meets its contract: each store is within the memory, and `at + 1` is the cell after `at`.
 -- Assumes nothing.
-use borrow.Author.Rules.{rules}
 use native.Mathlib.Omega.{arith}
 use native.Mathlib.Numerals.{towards_suc}
 use lib.ListN.{length-set}

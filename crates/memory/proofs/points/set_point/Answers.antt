@@ -1,6 +1,5 @@
 -- `memory::points::set_point` meets its contract: each store is within the memory, and `3 * x + 1` is the cell after `3 * x`.
 -- Assumes nothing.
-use borrow.Author.Rules.{rules}
 use native.Mathlib.Omega.{arith}
 use native.Mathlib.Numerals.{towards_suc}
 use lib.ListN.{length-set}

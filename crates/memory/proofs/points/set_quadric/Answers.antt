@@ -1,6 +1,5 @@
 -- `memory::points::set_quadric` meets its contract: the second five cells begin where the first five end.
 -- Assumes nothing.
-use borrow.Author.Rules.{rules}
 use native.Mathlib.Numerals.{towards_suc}
 use Rattle.memory.specs.Points.{with_quadric}
 use Rattle.memory.proofs.points.set_quadric.Goals as goal

@@ -1,6 +1,5 @@
 -- `memory::points::vertex_at` meets its contract: the quadric that is read is the point's own.
 -- Assumes nothing.
-use borrow.Author.Rules.{rules}
 use mathlib.Core.Path.{ap, ◌∙◌}
 use Rattle.memory.specs.Points.{vertex_with}
 use Rattle.memory.proofs.points.vertex_at.Goals as goal

@@ -1,5 +1,4 @@
 -- `placement::pair::is_too_long` meets its contract, in each case of the limit. Assumes nothing.
-use borrow.Author.Rules.{rules}
 use Rattle.placement.proofs.pair.is_too_long.Goals as goal
 
 pub pair_length-requires : goal.pair_length-requires

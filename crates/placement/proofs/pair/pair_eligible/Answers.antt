@@ -1,5 +1,4 @@
 -- `placement::pair::pair_eligible` meets its contract, in each case of the candidate. Assumes nothing.
-use borrow.Author.Rules.{rules}
 use Rattle.placement.proofs.PlacementLaws.{eligible-is}
 use Rattle.placement.proofs.pair.pair_eligible.Goals as goal
 

@@ -1,5 +1,4 @@
 -- `placement::place::choose` meets its contract, in each case of the tested placement. Assumes nothing.
-use borrow.Author.Rules.{rules}
 use Rattle.placement.specs.Places.{place_of}
 use Rattle.placement.proofs.place.choose.Goals as goal
 

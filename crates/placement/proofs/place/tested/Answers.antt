@@ -1,5 +1,4 @@
 -- `placement::place::tested` meets its contract, in each case of the placement. Assumes nothing.
-use borrow.Author.Rules.{rules}
 use Rattle.placement.specs.Places.{tested}
 use Rattle.placement.proofs.place.tested.Goals as goal
 
