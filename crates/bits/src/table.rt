@@ -6,8 +6,8 @@ ghost use Rattle.bits.specs.Clauses.{wrong_in, PastAll};
 
 // The row of no number: there is none below 96 that the rows leave out.
 fn no_row(i: u64) -> u64
-    requires { (i < 96) × PastAll 96 i }
-    ensures { wrong_in 8 (256 + 8 * i) result ≡ 0 }
+    requires { PastAll 96 i }
+    ensures { i < 96 → wrong_in 8 (256 + 8 * i) result ≡ 0 }
 {
     0
 }

@@ -19,7 +19,7 @@ use Rattle.lists.proofs.EveryLaws.{every-head, every-tail, every-implies, some-c
 use Rattle.lists.proofs.BelowLaws.{all-below, sum-pick, sum-same-below}
 use Rattle.lists.proofs.SumLaws.{sum_same}
 use Rattle.walk.proofs.FaceLaws.{renamed-proper}
-use Rattle.memory.specs.Memory.{corner, first, lives, live_faces, live_numbers, Room, live_at}
+use Rattle.memory.specs.Memory.{corner, lives, live_faces, live_numbers, Room, live_at}
 use Rattle.lists.specs.Frames.{But}
 use Rattle.mesh.specs.Clauses.Chains.{Chains, Tidy}
 use Rattle.mesh.specs.Clauses.Around.{Gathered}

@@ -18,7 +18,6 @@ use Rattle.walk.specs.Faces.{Mesh}
 use Rattle.walk.specs.declared.Pair.{Pair}
 use Rattle.lists.specs.Lists.{sum, those, every, below}
 use Rattle.walk.specs.Pairs.{pair_of}
-use Rattle.lists.proofs.TestLaws.{by-test}
 use Rattle.lists.proofs.EveryLaws.{every-head, every-cons, length-those, every-at, those-append}
 use Rattle.lists.proofs.SumLaws.{sum-append, sum-map, sum-length}
 use Rattle.lists.proofs.FrameLaws.{but-refl, but-then, but-widen, floats-refl, floats-then}
@@ -39,7 +38,7 @@ use Rattle.heapwalk.specs.Clauses.Entering.{Open, entries_for, Entered}
 use Rattle.heapwalk.specs.Entries.{entry_for}
 use Rattle.heapwalk.specs.Clauses.Listing.{pairs_with, Enterable, EnteredBeside}
 use Rattle.heapwalk.specs.Clauses.Reading.{PointsListed}
-use Rattle.heapwalk.proofs.QueueFrames.{vertex-stays, fits-stays, mesh-stays}
+use Rattle.heapwalk.proofs.QueueFrames.{fits-stays, mesh-stays}
 use Rattle.heapwalk.proofs.EntryForLaws.{entries-current, entry-is}
 use Rattle.memory.specs.Layout.{around_from}
 

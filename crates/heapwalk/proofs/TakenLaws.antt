@@ -14,7 +14,7 @@ use Rattle.placement.specs.declared.Limit.{Limit}
 use Rattle.placement.specs.declared.pair.Vertex.{Vertex}
 use Rattle.placement.specs.Pairs.{pair_place}
 use Rattle.walk.specs.declared.Pair.{Pair}
-use Rattle.lists.specs.Lists.{sum, count, those, below}
+use Rattle.lists.specs.Lists.{sum, count, below}
 use Rattle.walk.specs.Pairs.{same_pair, order}
 use Rattle.walk.specs.Faces.{Rules, Mesh}
 use Rattle.walk.specs.declared.Tested.{Tested}

@@ -14,7 +14,7 @@ use Rattle.geometry.specs.declared.Point.{Point}
 use Rattle.placement.specs.Pairs.{pair_place, pair_cost}
 use Rattle.walk.specs.declared.Pair.{Pair}
 use Rattle.walk.specs.Pairs.{pair_of}
-use Rattle.lists.specs.Lists.{sum, below}
+use Rattle.lists.specs.Lists.{sum}
 use Rattle.lists.proofs.SumLaws.{sum-append}
 use Rattle.lists.proofs.BelowLaws.{sum_below, sum-same-below}
 use Rattle.memory.specs.declared.entries.Entry.{Entry}

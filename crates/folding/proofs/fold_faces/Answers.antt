@@ -5,7 +5,6 @@ use native.Mathlib.Omega.{arith}
 use mathlib.Core.Bool.{◌&&◌}
 use lib.Dec.{eqb}
 use lib.ListN.{length}
-use borrow.Author.Rules.{rules}
 use Rattle.memory.specs.Layout.{kinds_from}
 use Rattle.memory.specs.Memory.{corner, lives}
 use Rattle.lists.proofs.FrameLaws.{but-then}

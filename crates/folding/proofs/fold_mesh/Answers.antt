@@ -2,7 +2,6 @@
 -- Assumes nothing.
 use native.Mathlib.Omega.{arith}
 use mathlib.Core.Path.{ap, ◌∙◌}
-use borrow.Author.Rules.{rules}
 use Rattle.memory.specs.Points.{with_quadric}
 use Rattle.folding.proofs.MovedLaws.{mesh-folded}
 use Rattle.folding.proofs.fold_mesh.Goals as goal

@@ -1,7 +1,6 @@
 -- `folding::try_fold` meets its contract: listing the faces leaves the mesh, the test leaves the memory, and what it says decides.
 -- Assumes nothing.
 use mathlib.Core.Path.{ap₂, ◌∙◌}
-use borrow.Author.Rules.{rules}
 use Rattle.geometry.specs.Quadrics.{quadric_sum}
 use Rattle.folding.proofs.TriedLaws.{listed-tidy, listed-around, fold-made, fold-refused}
 use Rattle.folding.proofs.try_fold.Goals as goal

@@ -1,6 +1,5 @@
 -- `foldtest::is_harmed` meets its contract: a face that holds the other point is not harmed, and any other is if the test doesn't allow it.
 -- Assumes nothing.
-use borrow.Author.Rules.{rules}
 use Rattle.foldtest.proofs.HarmLaws.{face-placed, spared, unharmed, is-harmed}
 use Rattle.foldtest.proofs.is_harmed.Goals as goal
 

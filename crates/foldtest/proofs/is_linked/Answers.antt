@@ -1,7 +1,6 @@
 -- `foldtest::is_linked` meets its contract: the faces around keep that hold remove are the shared ones.
 -- Assumes nothing.
 use mathlib.Core.Path.{refl}
-use borrow.Author.Rules.{rules}
 use Rattle.ring.proofs.AroundLaws.{may-count}
 use Rattle.foldtest.proofs.LinkLaws.{not-linked, link-decided}
 use Rattle.foldtest.proofs.is_linked.Goals as goal

@@ -1,13 +1,10 @@
 -- `foldtest::lowest_harmed` meets its contract. The loop's invariant: what was found is the lowest of the first `i` faces.
 -- The measure is what is left of the list. Assumes nothing.
-use Prim.Native.Nat.{◌≤◌, ◌-◌}
 use native.Mathlib.Nat.{le_antisymm}
 use native.Mathlib.Omega.{arith}
 use Rattle.lists.proofs.FrameLaws.{but-refl}
-use Rattle.walk.specs.Faces.{face_at}
 use Rattle.ring.proofs.TurnLaws.{next-slot}
-use Rattle.foldtest.specs.Clauses.Fair.{harmed}
-use Rattle.foldtest.proofs.LowestLaws.{Lowest, lowest_start, lowest-turn}
+use Rattle.foldtest.proofs.LowestLaws.{lowest_start, lowest-turn}
 use Rattle.foldtest.proofs.lowest_harmed.Goals as goal
 
 pub loop-i-init : goal.loop-i-init

@@ -1,6 +1,5 @@
 -- `foldtest::tested` meets its contract: the test of numbers, which leaves the memory as it was, and then the test of faces.
 -- Assumes nothing.
-use borrow.Author.Rules.{rules}
 use Rattle.foldtest.proofs.LinkLaws.{tested-unlinked, tested-by-faces}
 use Rattle.foldtest.proofs.tested.Goals as goal
 

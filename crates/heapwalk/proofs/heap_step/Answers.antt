@@ -1,7 +1,6 @@
 -- `heapwalk::heap_step` meets its contract: at the end nothing is done, and else the answer is that of the first current entry.
 -- Assumes nothing.
 use native.Mathlib.Omega.{arith}
-use borrow.Author.Rules.{rules}
 use Rattle.queue.specs.Clauses.Changes.{TakenOff}
 use Rattle.heapwalk.proofs.AnswerLaws.{at_target, none_left}
 use Rattle.heapwalk.proofs.TakenLaws.{took-entry, took-none, top-holds, taken_step}

@@ -1,7 +1,6 @@
 -- `heapwalk::heap_walk` meets its contract: once the first pairs are in the queue the memory holds the start, and the walk from there is a chain.
 -- Assumes nothing.
 use mathlib.Core.Path.{refl}
-use borrow.Author.Rules.{rules}
 use Rattle.heapwalk.proofs.HoldLaws.{start-holds}
 use Rattle.heapwalk.proofs.heap_walk.Goals as goal
 

@@ -1,6 +1,5 @@
 -- `heapwalk::room_next` meets its contract: each arm is one of its definition. Assumes nothing.
 use mathlib.Core.Path.{refl}
-use borrow.Author.Rules.{rules}
 use Rattle.heapwalk.proofs.room_next.Goals as goal
 
 pub returns-then-thin : goal.returns-then-thin

@@ -3,13 +3,9 @@
 -- budget. Assumes nothing.
 use native.Mathlib.Omega.{arith}
 use mathlib.Core.Path.{◌∙◌}
-use borrow.Author.Rules.{rules}
-use Rattle.walk.specs.Walk.{budget}
-use Rattle.queue.specs.State.{heap_state}
-use Rattle.plainwalk.specs.Moments.{moment}
 use Rattle.plainwalk.proofs.LentLaws.{folds_few, room-folded, less-folded, less-closed}
 use Rattle.heapwalk.proofs.HoldLaws.{heap-step}
-use Rattle.heapwalk.proofs.ChainLaws.{Chaining, chaining-start, chaining-folded, chaining-room, chaining-closed, chaining-end}
+use Rattle.heapwalk.proofs.ChainLaws.{chaining-start, chaining-folded, chaining-room, chaining-closed, chaining-end}
 use Rattle.heapwalk.proofs.walk_on.Goals as goal
 
 pub loop-pair-init : goal.loop-pair-init

@@ -1,15 +1,10 @@
 -- `heapwalk::walk_on` meets its contract. The loop's invariant: a chain of steps leads from the start to the memory as it is, the folds
 -- told on it are written down, and the reasons told on it are counted. When old entries are thrown out, it doesn't say. The measure is the plain walk's
 -- budget. Assumes nothing.
-use native.Mathlib.Omega.{arith}
-use mathlib.Core.Path.{◌∙◌}
-use borrow.Author.Rules.{rules}
 use Rattle.walk.specs.Walk.{budget}
 use Rattle.queue.specs.State.{heap_state}
 use Rattle.plainwalk.specs.Moments.{moment}
-use Rattle.plainwalk.proofs.LentLaws.{folds_few, room-folded, less-folded, less-closed}
-use Rattle.heapwalk.proofs.HoldLaws.{heap-step}
-use Rattle.heapwalk.proofs.ChainLaws.{Chaining, chaining-start, chaining-folded, chaining-room, chaining-closed, chaining-end}
+use Rattle.heapwalk.proofs.ChainLaws.{Chaining}
 use Rattle.heapwalk.proofs.walk_on.Given as goal
 
 abbrev pub invariant-loop-pair : goal.invariant-loop-pair

@@ -1,5 +1,5 @@
 -- The quadrics of listed points are read a part of eight at a time: what that asks, and what it leaves.
-use Rattle.std.specs.Prelude.{ℕ, ◌+◌, ◌*◌, ◌/◌, ◌%◌, ◌≤◌, ◌<◌, ◌≡◌, ◌≢◌, List, cond, ltb, length, get_or, Float}
+use Rattle.std.specs.Prelude.{ℕ, ◌+◌, ◌/◌, ◌%◌, ◌≤◌, ◌<◌, ◌≡◌, ◌≢◌, List, cond, ltb, length, get_or, Float}
 use Rattle.memory.specs.Points.{quadric_at}
 use Rattle.memory.specs.Layout.{around_from}
 

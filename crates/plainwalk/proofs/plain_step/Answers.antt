@@ -1,7 +1,6 @@
 -- `plainwalk::plain_step` meets its contract: at the end nothing is done, and else the answer is that of the least open pair.
 -- Assumes nothing.
 use native.Mathlib.Omega.{arith}
-use borrow.Author.Rules.{rules}
 use Rattle.plainwalk.proofs.MemoryLaws.{open-named, open-few}
 use Rattle.plainwalk.proofs.AnswerLaws.{at_target, none_open, least_step}
 use Rattle.plainwalk.proofs.plain_step.Goals as goal

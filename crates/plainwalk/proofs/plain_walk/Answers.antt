@@ -1,6 +1,5 @@
 -- `plainwalk::plain_walk` meets its contract: once the first pairs are open the memory holds the start, and the walk from there is the whole walk.
 -- Assumes nothing.
-use borrow.Author.Rules.{rules}
 use Rattle.plainwalk.proofs.WalkLaws.{start-holds, walk-done}
 use Rattle.plainwalk.proofs.plain_walk.Goals as goal
 

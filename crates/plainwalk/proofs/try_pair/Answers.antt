@@ -1,7 +1,6 @@
 -- `plainwalk::try_pair` meets its contract: a fold that is made is followed by the open pairs, and a pair that isn't allowed is closed.
 -- Assumes nothing.
 use native.Mathlib.Omega.{arith}
-use borrow.Author.Rules.{rules}
 use Rattle.folding.specs.declared.Tried.TheVariants.{Folded as Made, Refused}
 use Rattle.folding.specs.Clauses.Folds.{FoldTried}
 use Rattle.folding.proofs.TriedLaws.{tried-as}

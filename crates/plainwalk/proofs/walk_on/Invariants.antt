@@ -1,13 +1,10 @@
 -- `plainwalk::walk_on` meets its contract. The loop's invariant: the memory holds the state that the plain walk comes to in some number of steps, the
 -- folds made on the way are written down, and the pairs closed on it are counted by reason. The measure is the plain walk's budget. Assumes nothing.
-use native.Mathlib.Omega.{arith}
-use borrow.Author.Rules.{rules}
 use Rattle.walk.specs.Walk.{budget}
 use Rattle.openpairs.specs.State.{state_of}
 use Rattle.plainwalk.specs.Moments.{moment}
-use Rattle.plainwalk.proofs.LentLaws.{folds_few, room-folded, less-folded, less-closed}
-use Rattle.plainwalk.proofs.CountLaws.{Counting, counting-start, count-folded, count_room, count-closed, counting-end}
-use Rattle.plainwalk.proofs.WalkLaws.{plain, plain_step}
+use Rattle.plainwalk.proofs.CountLaws.{Counting}
+use Rattle.plainwalk.proofs.WalkLaws.{plain}
 use Rattle.plainwalk.proofs.walk_on.Given as goal
 
 abbrev pub invariant-loop-pair : goal.invariant-loop-pair

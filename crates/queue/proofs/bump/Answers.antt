@@ -1,6 +1,5 @@
 -- `queue::bump` meets its contract: what is written is one more than the stamp that was read.
 -- Assumes nothing.
-use borrow.Author.Rules.{rules}
 use Rattle.queue.proofs.bump.Goals as goal
 
 pub returns : goal.returns

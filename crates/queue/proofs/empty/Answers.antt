@@ -1,6 +1,5 @@
 -- `queue::empty` meets its contract: the stamps are filled with 0. Assumes nothing.
 use native.Mathlib.Omega.{arith}
-use borrow.Author.Rules.{rules}
 use Rattle.lists.proofs.WrittenLaws.{written_from}
 use Rattle.queue.proofs.EmptyLaws.{emptied}
 use Rattle.queue.proofs.empty.Goals as goal

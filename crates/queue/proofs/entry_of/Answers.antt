@@ -1,6 +1,5 @@
 -- `queue::entry_of` meets its contract: both stamps are the present ones. Assumes nothing.
 use mathlib.Core.Path.{refl}
-use borrow.Author.Rules.{rules}
 use Rattle.memory.proofs.EntryLaws.{entry-path}
 use Rattle.queue.proofs.entry_of.Goals as goal
 

@@ -1,11 +1,9 @@
 -- `queue::gather_current` meets its contract. The loop's invariant is `Gathering`; each arm of the test is one law of it.
 -- The measure is how many entries are left to look at. Assumes nothing.
-use Prim.Native.Nat.{◌≤◌, ◌-◌}
 use native.Mathlib.Omega.{arith}
 use borrow.Author.Rules.{rules}
-use mathlib.Core.Logic.{⊎_elim}
 use Rattle.memory.proofs.EntryLaws.{room-only}
-use Rattle.queue.proofs.ThrowLaws.{Gathering, gathering-none, gathering-kept, gathering-old, gathering-all, looked-named}
+use Rattle.queue.proofs.ThrowLaws.{gathering-none, gathering-kept, gathering-old, gathering-all, looked-named}
 use Rattle.queue.proofs.gather_current.Goals as goal
 use Rattle.queue.proofs.gather_current.Goals.{then-stays, else-stays}
 
@@ -36,8 +34,8 @@ pub loop-i-preserved : goal.loop-i-preserved
 loop-i-preserved c = (
   search rules,
   elim c.if-stays.branch [
-    then-stays w ↦ rw w.kept-is (gathering-kept c.requires.fact_3 c.loop-i-test.true c.loop-i.invariant.1 c.entry_at-entry.ensures w.if-stays.true c.is_current-stays.ensures c.set_entry.ensures)
-  | else-stays w ↦ rw w.kept-is (gathering-old c.requires.fact_3 c.loop-i-test.true c.loop-i.invariant.1 c.entry_at-entry.ensures w.if-stays.false c.is_current-stays.ensures c.set_entry.ensures)
+    | then-stays w ↦ rw w.kept-is (gathering-kept c.requires.fact_3 c.loop-i-test.true c.loop-i.invariant.1 c.entry_at-entry.ensures w.if-stays.true c.is_current-stays.ensures c.set_entry.ensures)
+    | else-stays w ↦ rw w.kept-is (gathering-old c.requires.fact_3 c.loop-i-test.true c.loop-i.invariant.1 c.entry_at-entry.ensures w.if-stays.false c.is_current-stays.ensures c.set_entry.ensures)
   ],
 )
 

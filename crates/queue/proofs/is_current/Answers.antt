@@ -2,7 +2,6 @@
 use mathlib.Core.Path.{ap, ap₂}
 use mathlib.Core.Bool.{◌&&◌}
 use lib.Dec.{eqb}
-use borrow.Author.Rules.{rules}
 use Rattle.queue.proofs.is_current.Goals as goal
 
 pub returns : goal.returns

@@ -1,6 +1,5 @@
 -- `queue::make_room` meets its contract: a full queue has old entries. Assumes nothing.
 use native.Mathlib.Omega.{arith}
-use borrow.Author.Rules.{rules}
 use Rattle.queue.proofs.ThrowLaws.{thrown-room, room-already}
 use Rattle.queue.proofs.make_room.Goals as goal
 

@@ -1,6 +1,5 @@
 -- `queue::pop` meets its contract: the last one is let down from the top. Assumes nothing.
 use native.Mathlib.Omega.{arith}
-use borrow.Author.Rules.{rules}
 use Rattle.queue.proofs.PopLaws.{top-holed, top-heap, popping}
 use Rattle.queue.proofs.pop.Goals as goal
 

@@ -1,7 +1,6 @@
 -- `queue::push` meets its contract: room is made, and the entry rises to its place, by the laws of PushLaws. Assumes nothing.
 use native.Mathlib.Omega.{arith}
 use mathlib.Core.Path.{◌≡◌, ◌∙◌}
-use borrow.Author.Rules.{rules}
 use Rattle.queue.specs.Clauses.Changes.{entry_of}
 use Rattle.queue.proofs.PushLaws.{entry-only, entry-pushed, entry_kept}
 use Rattle.queue.proofs.push.Goals as goal

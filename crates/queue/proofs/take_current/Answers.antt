@@ -1,7 +1,7 @@
 -- `queue::take_current` meets its contract. The loop's invariant is `Taking`; each arm of the test is one law of it.
 -- The measure is how many entries are left. Assumes nothing.
 use borrow.Author.Rules.{rules}
-use Rattle.queue.proofs.TakeLaws.{Taking, taking-start, taking-none, taking-old, taking-found, popped-named}
+use Rattle.queue.proofs.TakeLaws.{taking-start, taking-none, taking-old, taking-found, popped-named}
 use Rattle.queue.proofs.take_current.Goals as goal
 
 pub loop-left-init : goal.loop-left-init

@@ -1,7 +1,6 @@
 -- `queue::take_current` meets its contract. The loop's invariant is `Taking`; each arm of the test is one law of it.
 -- The measure is how many entries are left. Assumes nothing.
-use borrow.Author.Rules.{rules}
-use Rattle.queue.proofs.TakeLaws.{Taking, taking-start, taking-none, taking-old, taking-found, popped-named}
+use Rattle.queue.proofs.TakeLaws.{Taking}
 use Rattle.queue.proofs.take_current.Given as goal
 
 abbrev pub invariant-loop-left : goal.invariant-loop-left

@@ -1,5 +1,4 @@
 -- `queue::take_first` meets its contract: what is thrown out first was old. Assumes nothing.
-use borrow.Author.Rules.{rules}
 use Rattle.queue.proofs.PresentLaws.{named-were}
 use Rattle.queue.proofs.ThrowLaws.{took-thrown}
 use Rattle.queue.proofs.take_first.Goals as goal

@@ -1,5 +1,4 @@
 -- `queue::throw_out` meets its contract: the current ones are gathered, and made a heap. Assumes nothing.
-use borrow.Author.Rules.{rules}
 use Rattle.queue.proofs.ThrowLaws.{kept-room, throwing}
 use Rattle.queue.proofs.throw_out.Goals as goal
 

@@ -1,5 +1,5 @@
 -- The order of the queue: a heap of four children to a place. The places under place k are 4k + 1 to 4k + 4.
-use Rattle.std.specs.Prelude.{ℕ, ◌+◌, ◌-◌, ◌/◌, ◌≤◌, ◌<◌, ◌≡◌, cond, List, ltb, Float}
+use Rattle.std.specs.Prelude.{ℕ, ◌-◌, ◌/◌, ◌≤◌, ◌<◌, ◌≡◌, cond, List, ltb, Float}
 use Rattle.openpairs.specs.declared.pairs.Ranked.{Ranked}
 use Rattle.memory.specs.Entries.{entry_pair, cost_in}
 use Rattle.openpairs.specs.Clauses.Ranks.{rank}

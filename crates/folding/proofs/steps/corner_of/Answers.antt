@@ -1,6 +1,5 @@
 -- `folding::steps::corner_of` meets its contract: each return is one of the three cases of `corner_of`.
 -- Assumes nothing.
-use borrow.Author.Rules.{rules}
 use Rattle.folding.proofs.CornerLaws.{corner-first, corner-second, corner-third}
 use Rattle.folding.proofs.steps.corner_of.Goals as goal
 

@@ -1,14 +1,10 @@
 -- `folding::steps::kill` meets its contract. The loop's invariant: the first `i` slots have had their turn, and those of them that hold x are counted.
 -- The measure is what is left of `n`. Assumes nothing.
-use Prim.Native.Nat.{ℕ, ◌+◌, ◌-◌, ◌*◌, ◌<◌}
-use native.Mathlib.Nat.{le_antisymm}
-use native.Mathlib.Omega.{arith}
-use mathlib.Core.Path.{ap}
+use Prim.Native.Nat.{◌-◌, ◌*◌}
 use Rattle.walk.specs.Faces.{holds, face_at}
-use Rattle.ring.proofs.TurnLaws.{Tally, tally-none, tally-few, tally-more}
+use Rattle.ring.proofs.TurnLaws.{Tally}
 use Rattle.folding.specs.Clauses.Steps.{killed}
-use Rattle.folding.proofs.TurnLaws.{Turning, turn-start, turn-slot, turn_inside, turn-next, turn_end}
-use Rattle.folding.proofs.KillLaws.{face-flags, killed-but}
+use Rattle.folding.proofs.TurnLaws.{Turning}
 use Rattle.folding.proofs.steps.kill.Given as goal
 
 abbrev pub invariant-loop-i : goal.invariant-loop-i

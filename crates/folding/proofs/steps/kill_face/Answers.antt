@@ -4,7 +4,6 @@ use mathlib.Core.Path.{◌≡◌, sym, ap, ◌∙◌}
 use mathlib.Core.Bool.{true, false}
 use Rattle.walk.specs.Faces.{holds, face_at}
 use Rattle.folding.specs.Clauses.Steps.{killed}
-use borrow.Author.Rules.{rules}
 use Rattle.folding.proofs.steps.kill_face.Goals as goal
 
 pub returns-then-face_holds : goal.returns-then-face_holds

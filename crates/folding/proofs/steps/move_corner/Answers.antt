@@ -2,7 +2,6 @@
 -- Assumes nothing.
 use mathlib.Core.Path.{◌∙◌}
 use Rattle.folding.specs.Clauses.Steps.{moved}
-use borrow.Author.Rules.{rules}
 use Rattle.folding.proofs.steps.move_corner.Goals as goal
 
 pub returns : goal.returns

@@ -1,9 +1,8 @@
 -- `folding::steps::relist` meets its contract. The loop's invariant: the first `i` slots have had their turn.
 -- The measure is what is left of `n`. Assumes nothing.
-use Prim.Native.Nat.{◌-◌, ◌<◌}
+use Prim.Native.Nat.{◌<◌}
 use native.Mathlib.Omega.{arith}
-use Rattle.folding.specs.Clauses.Steps.{relisted}
-use Rattle.folding.proofs.TurnLaws.{Turning, turn-start, turn_inside, turn-next, turn_end}
+use Rattle.folding.proofs.TurnLaws.{turn-start, turn_inside, turn-next, turn_end}
 use Rattle.folding.proofs.RelistLaws.{relisted-but}
 use Rattle.folding.proofs.steps.relist.Goals as goal
 use Rattle.folding.proofs.steps.relist.Goals.{After-slot_at-k}

@@ -1,10 +1,8 @@
 -- `folding::steps::relist` meets its contract. The loop's invariant: the first `i` slots have had their turn.
 -- The measure is what is left of `n`. Assumes nothing.
-use Prim.Native.Nat.{◌-◌, ◌<◌}
-use native.Mathlib.Omega.{arith}
+use Prim.Native.Nat.{◌-◌}
 use Rattle.folding.specs.Clauses.Steps.{relisted}
-use Rattle.folding.proofs.TurnLaws.{Turning, turn-start, turn_inside, turn-next, turn_end}
-use Rattle.folding.proofs.RelistLaws.{relisted-but}
+use Rattle.folding.proofs.TurnLaws.{Turning}
 use Rattle.folding.proofs.steps.relist.Given as goal
 
 abbrev pub invariant-loop-i : goal.invariant-loop-i

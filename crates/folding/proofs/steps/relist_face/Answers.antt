@@ -7,7 +7,6 @@ use borrow.Author.Tests.{eq-eqb, ne_eqb}
 use Rattle.memory.specs.Memory.{lives}
 use Rattle.folding.specs.Clauses.Steps.{relisted}
 use Rattle.folding.proofs.CornerLaws.{corner-slot}
-use borrow.Author.Rules.{rules}
 use Rattle.folding.proofs.steps.relist_face.Goals as goal
 
 pub move_corner-requires : goal.move_corner-requires

@@ -1,6 +1,5 @@
 -- `foldtest::fair::moved` meets its contract: each test that led to a return is a test of the definition.
 -- Assumes nothing.
-use borrow.Author.Rules.{rules}
 use borrow.Author.Tests.{eq-eqb, ne_eqb}
 use Rattle.foldtest.proofs.fair.moved.Goals as goal
 

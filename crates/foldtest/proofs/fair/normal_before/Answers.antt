@@ -1,6 +1,5 @@
 -- `foldtest::fair::normal_before` meets its contract: the normal of the three points that were read.
 -- Assumes nothing.
-use borrow.Author.Rules.{rules}
 use Rattle.foldtest.proofs.fair.normal_before.Goals as goal
 
 pub point_at-requires : goal.point_at-requires

@@ -1,6 +1,5 @@
 -- `heapwalk::entering::enter_around` meets its contract: the points around x are listed, and x is opened with those that it is eligible with.
 -- Assumes nothing.
-use borrow.Author.Rules.{rules}
 use Rattle.heapwalk.proofs.AroundLaws.{around-few, around-ready, around-entered}
 use Rattle.heapwalk.proofs.entering.enter_around.Goals as goal
 

@@ -1,16 +1,9 @@
 -- `heapwalk::entering::enter_listed` meets its contract. The loop's invariant: the pairs with the points passed are entered, the list stays, and the quadrics
 -- of the part that the next point is in are at hand. The measure is how many points are left. Assumes nothing.
-use Prim.Native.Nat.{◌+◌, ◌-◌, ◌%◌, ◌≤◌}
-use native.Mathlib.Nat.{le_refl}
-use native.Mathlib.Omega.{arith}
-use mathlib.Core.Path.{◌≡◌, refl, ap, ◌∙◌}
-use borrow.Author.Rules.{rules}
+use Prim.Native.Nat.{◌-◌, ◌≤◌}
 use Rattle.memory.specs.Memory.{around_in}
-use Rattle.memory.specs.Points.{quadric_at}
 use Rattle.heapwalk.specs.Clauses.Listing.{pairs_with, EnteredBeside}
-use Rattle.heapwalk.specs.Clauses.Reading.{ReadBefore, ReadAt}
-use Rattle.heapwalk.proofs.EnterLaws.{listed-none, turn-ready, turn-listed, turn-done}
-use Rattle.heapwalk.proofs.ReadLaws.{read_next}
+use Rattle.heapwalk.specs.Clauses.Reading.{ReadBefore}
 use Rattle.heapwalk.proofs.entering.enter_listed.Given as goal
 
 abbrev pub invariant-loop-i : goal.invariant-loop-i

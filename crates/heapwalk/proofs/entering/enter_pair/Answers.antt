@@ -2,7 +2,6 @@
 -- Assumes nothing.
 use native.Mathlib.Omega.{arith}
 use mathlib.Core.Path.{◌≡◌, sym, ap, ap₂, ◌∙◌}
-use borrow.Author.Rules.{rules}
 use Rattle.placement.specs.Pairs.{pair_candidate}
 use Rattle.placement.proofs.PlacementLaws.{candidate-eligible, candidate-none}
 use Rattle.memory.specs.Points.{vertex_with, vertex_at}

@@ -1,10 +1,8 @@
 -- `heapwalk::entering::enter_start` meets its contract. The loop's invariant: the pairs of the points passed are entered.
 -- The measure is how many points are left. Assumes nothing.
 use Prim.Native.Nat.{◌≤◌, ◌-◌}
-use native.Mathlib.Omega.{arith}
-use borrow.Author.Rules.{rules}
 use Rattle.heapwalk.specs.Clauses.Entering.{Entered}
-use Rattle.heapwalk.proofs.StartLaws.{rising_below, starting-none, starting-room, starting-next, starting-all}
+use Rattle.heapwalk.proofs.StartLaws.{rising_below}
 use Rattle.heapwalk.proofs.entering.enter_start.Given as goal
 
 abbrev pub invariant-loop-x : goal.invariant-loop-x

@@ -1,7 +1,5 @@
 -- `heapwalk::entering::read_ahead` meets its contract: where a part begins it is read, and else it is at hand. Assumes nothing.
 use native.Mathlib.Omega.{arith}
-use mathlib.Core.Path.{◌≡◌}
-use borrow.Author.Rules.{rules}
 use Prim.Native.Nat.{◌-◌}
 use Rattle.heapwalk.specs.Clauses.Reading.{part_of, PartRead}
 use Rattle.heapwalk.proofs.ReadLaws.{part-begins, part-goes-on, part_room, part-inside}

@@ -1,10 +1,6 @@
 -- `heapwalk::entering::read_part` meets its contract. The loop's invariant: those before j are read. Assumes nothing.
-use Prim.Native.Nat.{◌+◌, ◌-◌, ◌≤◌}
-use native.Mathlib.Omega.{arith}
-use mathlib.Core.Path.{◌≡◌}
-use borrow.Author.Rules.{rules}
+use Prim.Native.Nat.{◌-◌, ◌≤◌}
 use Rattle.heapwalk.specs.Clauses.Reading.{PartRead}
-use Rattle.heapwalk.proofs.ReadLaws.{reading-none, reading-next}
 use Rattle.heapwalk.proofs.entering.read_part.Given as goal
 
 abbrev pub invariant-loop-j : goal.invariant-loop-j

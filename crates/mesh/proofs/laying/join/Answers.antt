@@ -1,7 +1,7 @@
 -- `mesh::laying::join` meets its contract. The loop's invariant: the corners from `c` on are in their chains.
 -- The measure is `c`. Assumes nothing.
 use native.Mathlib.Omega.{arith}
-use Rattle.mesh.proofs.JoinLaws.{Joining, join-start, join-point, join-turn, join-end}
+use Rattle.mesh.proofs.JoinLaws.{join-start, join-point, join-turn, join-end}
 use Rattle.mesh.proofs.laying.join.Goals as goal
 
 pub loop-c-init : goal.loop-c-init

@@ -1,7 +1,6 @@
 -- `mesh::laying::join` meets its contract. The loop's invariant: the corners from `c` on are in their chains.
 -- The measure is `c`. Assumes nothing.
-use native.Mathlib.Omega.{arith}
-use Rattle.mesh.proofs.JoinLaws.{Joining, join-start, join-point, join-turn, join-end}
+use Rattle.mesh.proofs.JoinLaws.{Joining}
 use Rattle.mesh.proofs.laying.join.Given as goal
 
 abbrev pub invariant-loop-c : goal.invariant-loop-c

@@ -4,7 +4,6 @@ use Prim.Native.Nat.{◌*◌}
 use lib.ListN.{get_or}
 use Rattle.lists.specs.Frames.{Written}
 use native.Mathlib.Omega.{arith}
-use borrow.Author.Rules.{rules}
 use Rattle.lists.proofs.WrittenLaws.{written_from, copy_written}
 use Rattle.mesh.proofs.LayLaws.{joinable, laid}
 use Rattle.mesh.proofs.laying.lay_faces.Goals as goal

@@ -2,8 +2,7 @@
 -- The measure is the number of corners ahead. Assumes nothing.
 use Prim.Native.Nat.{◌-◌, ◌*◌, ◌<◌}
 use native.Mathlib.Omega.{arith}
-use borrow.Author.Rules.{rules}
-use Rattle.mesh.proofs.WalkLaws.{Walk, steps, start, inside, less, passed, some-room, noted, collected}
+use Rattle.mesh.proofs.WalkLaws.{start, inside, less, passed, some-room, noted, collected}
 use Rattle.mesh.proofs.links.collect.Goals as goal
 use Rattle.mesh.proofs.links.collect.Goals.{In-loop-link, Then-live_at-eq1}
 

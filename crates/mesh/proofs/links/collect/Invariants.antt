@@ -1,9 +1,7 @@
 -- `mesh::links::collect` meets its contract. The loop's invariant: what is listed and what is ahead is what is around the point.
 -- The measure is the number of corners ahead. Assumes nothing.
-use Prim.Native.Nat.{◌-◌, ◌*◌, ◌<◌}
-use native.Mathlib.Omega.{arith}
-use borrow.Author.Rules.{rules}
-use Rattle.mesh.proofs.WalkLaws.{Walk, steps, start, inside, less, passed, some-room, noted, collected}
+use Prim.Native.Nat.{◌*◌}
+use Rattle.mesh.proofs.WalkLaws.{Walk, steps}
 use Rattle.mesh.proofs.links.collect.Given as goal
 
 abbrev pub invariant-loop-link : goal.invariant-loop-link

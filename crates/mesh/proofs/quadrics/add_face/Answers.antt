@@ -1,6 +1,5 @@
 -- `mesh::quadrics::add_face` meets its contract: three sums, one after the other.
 -- Assumes nothing.
-use borrow.Author.Rules.{rules}
 use Rattle.mesh.specs.Clauses.Quadrics.{with_face}
 use Rattle.mesh.proofs.quadrics.add_face.Goals as goal
 

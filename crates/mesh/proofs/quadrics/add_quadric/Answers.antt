@@ -1,6 +1,5 @@
 -- `mesh::quadrics::add_quadric` meets its contract: what is stored is the sum of what was read and the value.
 -- Assumes nothing.
-use borrow.Author.Rules.{rules}
 use Rattle.mesh.specs.Clauses.Quadrics.{with_sum}
 use Rattle.mesh.proofs.quadrics.add_quadric.Goals as goal
 

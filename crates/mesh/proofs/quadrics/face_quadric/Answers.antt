@@ -1,6 +1,5 @@
 -- `mesh::quadrics::face_quadric` meets its contract: the quadric of the plane through the three points that were read.
 -- Assumes nothing.
-use borrow.Author.Rules.{rules}
 use Rattle.mesh.proofs.quadrics.face_quadric.Goals as goal
 
 pub returns : goal.returns

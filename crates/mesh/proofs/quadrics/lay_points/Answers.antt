@@ -1,6 +1,5 @@
 -- `mesh::quadrics::lay_points` meets its contract: the list is as long as the points' cells. Assumes nothing.
 use mathlib.Core.Path.{◌∙◌}
-use borrow.Author.Rules.{rules}
 use Rattle.mesh.proofs.QuadricLaws.{points-copied}
 use Rattle.mesh.proofs.quadrics.lay_points.Goals as goal
 

@@ -1,11 +1,9 @@
 -- `mesh::quadrics::lay_quadrics` meets its contract. The loop's invariant: each quadric is what the first `k` faces have added up to.
 -- The measure is what is left of the faces. Assumes nothing.
-use Prim.Native.Nat.{◌≤◌, ◌-◌}
 use native.Mathlib.Omega.{arith}
 use mathlib.Core.Path.{◌≡◌}
 use Rattle.walk.proofs.FaceLaws.{Corners, corners}
-use Rattle.mesh.specs.Clauses.Quadrics.{QuadricsAre}
-use Rattle.mesh.proofs.QuadricLaws.{gathered_to, quadrics-start, quadrics-turn, quadrics-then}
+use Rattle.mesh.proofs.QuadricLaws.{quadrics-start, quadrics-turn, quadrics-then}
 use Rattle.mesh.proofs.quadrics.lay_quadrics.Goals as goal
 use Rattle.mesh.proofs.quadrics.lay_quadrics.Goals.{After-face_in-face}
 

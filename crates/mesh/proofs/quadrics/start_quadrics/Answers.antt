@@ -1,10 +1,7 @@
 -- `mesh::quadrics::start_quadrics` meets its contract. The loop's invariant: the quadrics of the points below `x` are zero.
 -- The measure is what is left of the points. Assumes nothing.
-use Prim.Native.Nat.{◌≤◌, ◌-◌}
 use native.Mathlib.Omega.{arith}
 use mathlib.Core.Path.{◌≡◌}
-use Rattle.geometry.specs.Quadrics.{zero_quadric}
-use Rattle.mesh.specs.Clauses.Quadrics.{QuadricsAre}
 use Rattle.mesh.proofs.QuadricLaws.{quadrics-none, quadrics-more}
 use Rattle.mesh.proofs.quadrics.start_quadrics.Goals as goal
 

@@ -1,7 +1,6 @@
 -- `openpairs::opening::is_eligible` meets its contract: it is asked of the two vertices that were read.
 -- Assumes nothing.
 use mathlib.Core.Path.{ap₂, ◌∙◌}
-use borrow.Author.Rules.{rules}
 use Rattle.placement.specs.Pairs.{eligible}
 use Rattle.openpairs.specs.Clauses.Waiting.{fits}
 use Rattle.openpairs.proofs.opening.is_eligible.Goals as goal

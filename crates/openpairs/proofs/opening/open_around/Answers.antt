@@ -1,7 +1,6 @@
 -- `openpairs::opening::open_around` meets its contract: the points are listed, and each is opened with x where the pair is eligible.
 -- Assumes nothing.
 use native.Mathlib.Omega.{arith}
-use borrow.Author.Rules.{rules}
 use Rattle.openpairs.proofs.AddLaws.{listed-ready, added}
 use Rattle.openpairs.proofs.opening.open_around.Goals as goal
 

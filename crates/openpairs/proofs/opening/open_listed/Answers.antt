@@ -1,10 +1,10 @@
 -- `openpairs::opening::open_listed` meets its contract. The loop's invariant: the pairs of the points passed are open; each arm of the test is one law of it.
 -- The measure is how many points are left. Assumes nothing.
-use Prim.Native.Nat.{◌≤◌, ◌<◌, ◌-◌, ◌*◌}
+use Prim.Native.Nat.{◌<◌, ◌*◌}
 use mathlib.Core.Path.{sym, ◌∙◌}
 use native.Mathlib.Omega.{arith}
 use borrow.Author.Rules.{rules}
-use Rattle.openpairs.proofs.WaitLaws.{Opening, opening-none, opening-room, opening-point, opening-place, opening-pair, opening-refused, opening-all}
+use Rattle.openpairs.proofs.WaitLaws.{opening-none, opening-room, opening-point, opening-place, opening-pair, opening-refused, opening-all}
 use Rattle.openpairs.proofs.opening.open_listed.Goals as goal
 use Rattle.openpairs.proofs.opening.open_listed.Goals.{Then-is_eligible}
 

@@ -1,10 +1,7 @@
 -- `openpairs::opening::open_listed` meets its contract. The loop's invariant: the pairs of the points passed are open; each arm of the test is one law of it.
 -- The measure is how many points are left. Assumes nothing.
-use Prim.Native.Nat.{◌≤◌, ◌<◌, ◌-◌, ◌*◌}
-use mathlib.Core.Path.{sym, ◌∙◌}
-use native.Mathlib.Omega.{arith}
-use borrow.Author.Rules.{rules}
-use Rattle.openpairs.proofs.WaitLaws.{Opening, opening-none, opening-room, opening-point, opening-place, opening-pair, opening-refused, opening-all}
+use Prim.Native.Nat.{◌≤◌, ◌-◌}
+use Rattle.openpairs.proofs.WaitLaws.{Opening}
 use Rattle.openpairs.proofs.opening.open_listed.Given as goal
 
 abbrev pub invariant-loop-i : goal.invariant-loop-i

@@ -1,10 +1,9 @@
 -- `openpairs::opening::open_start` meets its contract. The loop's invariant: the pairs of the points passed are open.
 -- The measure is how many points are left. Assumes nothing.
-use Prim.Native.Nat.{◌≤◌, ◌-◌}
 use native.Mathlib.Omega.{arith}
 use borrow.Author.Rules.{rules}
 use Rattle.mesh.proofs.TidyLaws.{tidy-but}
-use Rattle.openpairs.proofs.StartLaws.{Starting, starting-none, starting-next, starting-room, starting-all}
+use Rattle.openpairs.proofs.StartLaws.{starting-none, starting-next, starting-room, starting-all}
 use Rattle.openpairs.proofs.opening.open_start.Goals as goal
 
 pub loop-x-init : goal.loop-x-init

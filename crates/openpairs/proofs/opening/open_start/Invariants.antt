@@ -1,10 +1,7 @@
 -- `openpairs::opening::open_start` meets its contract. The loop's invariant: the pairs of the points passed are open.
 -- The measure is how many points are left. Assumes nothing.
 use Prim.Native.Nat.{◌≤◌, ◌-◌}
-use native.Mathlib.Omega.{arith}
-use borrow.Author.Rules.{rules}
-use Rattle.mesh.proofs.TidyLaws.{tidy-but}
-use Rattle.openpairs.proofs.StartLaws.{Starting, starting-none, starting-next, starting-room, starting-all}
+use Rattle.openpairs.proofs.StartLaws.{Starting}
 use Rattle.openpairs.proofs.opening.open_start.Given as goal
 
 abbrev pub invariant-loop-x : goal.invariant-loop-x

@@ -1,7 +1,6 @@
 -- `openpairs::pairs::cost_of` meets its contract: the cost of the two vertices that were read.
 -- Assumes nothing.
 use mathlib.Core.Path.{ap₂, ◌∙◌}
-use borrow.Author.Rules.{rules}
 use Rattle.placement.specs.Pairs.{pair_cost}
 use Rattle.openpairs.proofs.pairs.cost_of.Goals as goal
 

@@ -1,13 +1,7 @@
 -- `openpairs::pairs::drop_pairs` meets its contract. The loop's invariant is `Dropping`; each arm of the test is one law of it.
 -- The measure is how many pairs are left to look at. Assumes nothing.
 use Prim.Native.Nat.{◌≤◌, ◌-◌}
-use borrow.Author.Rules.{rules}
-use mathlib.Core.Path.{◌≡◌, sym, ◌∙◌}
-use Rattle.walk.specs.declared.Pair.{Pair}
-use Rattle.walk.specs.Pairs.{pair_of}
-use Rattle.walk.proofs.SamePairs.{pair_path}
-use Rattle.memory.specs.Entries.{pair_at}
-use Rattle.openpairs.proofs.DropLaws.{Dropping, dropping-none, dropping-kept, dropping-gone, dropping-all}
+use Rattle.openpairs.proofs.DropLaws.{Dropping}
 use Rattle.openpairs.proofs.pairs.drop_pairs.Given as goal
 
 abbrev pub invariant-loop-i : goal.invariant-loop-i

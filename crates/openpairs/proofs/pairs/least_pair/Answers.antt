@@ -1,9 +1,8 @@
 -- `openpairs::pairs::least_pair` meets its contract. The loop's invariant is `Leading`: the least of the pairs passed. Each arm of the test is one law of it.
 -- The measure is how many pairs are left to look at. Assumes nothing.
-use Prim.Native.Nat.{◌≤◌, ◌-◌}
 use mathlib.Core.Path.{sym, ◌∙◌}
 use borrow.Author.Rules.{rules}
-use Rattle.openpairs.proofs.LeastLaws.{Leading, leading-first, leading-new, leading-stays, leading-named, leading-least}
+use Rattle.openpairs.proofs.LeastLaws.{leading-first, leading-new, leading-stays, leading-named, leading-least}
 use Rattle.openpairs.proofs.pairs.least_pair.Goals as goal
 
 pub ranked_at-least-requires : goal.ranked_at-least-requires

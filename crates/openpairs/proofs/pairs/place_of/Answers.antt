@@ -1,7 +1,6 @@
 -- `openpairs::pairs::place_of` meets its contract: the place of the pair of the two vertices that were read.
 -- Assumes nothing.
 use mathlib.Core.Path.{ap₂, ◌∙◌}
-use borrow.Author.Rules.{rules}
 use Rattle.placement.specs.Pairs.{pair_place}
 use Rattle.openpairs.proofs.pairs.place_of.Goals as goal
 

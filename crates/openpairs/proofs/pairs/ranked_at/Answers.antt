@@ -1,6 +1,5 @@
 -- `openpairs::pairs::ranked_at` meets its contract: each part is what the function that gave it ensures.
 -- Assumes nothing.
-use borrow.Author.Rules.{rules}
 use Rattle.openpairs.proofs.LeastLaws.{ranked-is}
 use Rattle.openpairs.proofs.pairs.ranked_at.Goals as goal
 

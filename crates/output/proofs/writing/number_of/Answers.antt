@@ -4,7 +4,6 @@ use Prim.Native.Nat.{◌+◌, ◌*◌, ◌<◌}
 use native.Mathlib.Omega.{arith}
 use lib.ListN.{length}
 use Rattle.output.proofs.NumberingLaws.{numbered-old, numbered-new, room-known}
-use borrow.Author.Rules.{rules}
 use Rattle.output.proofs.writing.number_of.Goals as goal
 use Rattle.output.proofs.writing.number_of.Goals.{Else-kept-ne0}
 

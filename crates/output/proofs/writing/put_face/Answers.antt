@@ -2,7 +2,6 @@
 -- Assumes nothing.
 use native.Mathlib.Omega.{arith}
 use lib.ListN.{length-set}
-use borrow.Author.Rules.{rules}
 use Rattle.output.proofs.writing.put_face.Goals as goal
 
 pub bounds-out_faces-n-2 : goal.bounds-out_faces-n-2

@@ -2,7 +2,6 @@
 -- Assumes nothing.
 use native.Mathlib.Omega.{arith}
 use lib.ListN.{length-set}
-use borrow.Author.Rules.{rules}
 use Rattle.output.proofs.writing.put_point.Goals as goal
 
 pub bounds-out_points-n-2 : goal.bounds-out_points-n-2

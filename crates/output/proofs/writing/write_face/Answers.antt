@@ -4,7 +4,6 @@ use native.Mathlib.Omega.{arith}
 use mathlib.Core.Path.{◌∙◌}
 use Rattle.output.proofs.NumberingLaws.{known-then, room-then}
 use Rattle.output.proofs.WritingLaws.{corners-low, face-written}
-use borrow.Author.Rules.{rules}
 use Rattle.output.proofs.writing.write_face.Goals as goal
 
 pub number_of-a-requires : goal.number_of-a-requires

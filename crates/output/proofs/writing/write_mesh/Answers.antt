@@ -1,6 +1,6 @@
 -- `output::writing::write_mesh` meets its contract. The loop's invariant: the live faces among the first `k` slots are written.
 -- The measure is what is left of the slots. Assumes nothing.
-use Prim.Native.Nat.{◌<◌, ◌-◌}
+use Prim.Native.Nat.{◌<◌}
 use native.Mathlib.Omega.{arith}
 use Rattle.output.proofs.NumberingLaws.{length-points}
 use Rattle.output.proofs.SlotLaws.{Turn, turn-none, turn-room, turn-known, turn-proper, turn-fits, turn-live, turn-dead, turn-all}

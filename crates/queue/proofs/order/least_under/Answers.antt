@@ -1,7 +1,6 @@
 -- `queue::order::least_under` meets its contract: three comparisons find the lowest of four.
 -- Assumes nothing.
-use Prim.Native.Nat.{ℕ, ◌+◌, ◌*◌}
-use borrow.Author.Rules.{rules}
+use Prim.Native.Nat.{◌+◌, ◌*◌}
 use Rattle.queue.specs.Clauses.Ranks.{rank_in}
 use Rattle.queue.proofs.HeapLaws.{Lower, first-lower, lowest-found}
 use Rattle.queue.proofs.order.least_under.Goals as goal

@@ -1,9 +1,7 @@
 -- `queue::order::lesser_of` meets its contract: each test is one of its definition.
 -- Assumes nothing.
-use Prim.Native.Nat.{ℕ}
 use mathlib.Core.Path.{◌≡◌, ap₂, ◌∙◌}
 use lib.Dec.{ltb}
-use borrow.Author.Rules.{rules}
 use Rattle.openpairs.specs.declared.pairs.Ranked.{Ranked}
 use Rattle.openpairs.specs.Clauses.Ranks.{rank}
 use Rattle.queue.specs.Clauses.Ranks.{rank_in}

@@ -1,6 +1,5 @@
 -- `queue::order::move_entry` meets its contract: what was read is written.
 -- Assumes nothing.
-use borrow.Author.Rules.{rules}
 use Rattle.queue.proofs.order.move_entry.Goals as goal
 
 pub returns : goal.returns

@@ -1,7 +1,6 @@
 -- `queue::order::ranked_in` meets its contract: each part is what was read of it.
 -- Assumes nothing.
 use mathlib.Core.Path.{ap}
-use borrow.Author.Rules.{rules}
 use Rattle.walk.specs.declared.Pair.{Pair}
 use Rattle.queue.proofs.KeyLaws.{ranked-path}
 use Rattle.queue.proofs.order.ranked_in.Goals as goal

@@ -1,14 +1,10 @@
 -- `queue::order::rise` meets its contract. The loop's invariant: the entries are in another order, and make a heap but that the one of the hole may
 -- come before the one over it. The measure is the hole. Assumes nothing.
 use Prim.Native.Nat.{◌+◌}
-use native.Mathlib.Omega.{arith}
-use mathlib.Core.Logic.{◌≢◌}
-use borrow.Author.Rules.{rules}
 use Rattle.memory.specs.Entries.{entry_in}
-use Rattle.queue.specs.Clauses.Ranks.{over}
 use Rattle.queue.specs.Clauses.Order.{filled, ranks}
-use Rattle.queue.proofs.HeapLaws.{Rising, rising-done}
-use Rattle.queue.proofs.HoleLaws.{Moving, moving-start, moving-turn, rising-hole, rising-moved, own-lower, own-above, sunk}
+use Rattle.queue.proofs.HeapLaws.{Rising}
+use Rattle.queue.proofs.HoleLaws.{Moving}
 use Rattle.queue.proofs.order.rise.Given as goal
 
 abbrev pub invariant-loop-hole : goal.invariant-loop-hole

@@ -1,12 +1,7 @@
 -- `queue::order::settle` meets its contract. The loop's invariant: the entries are in another order, and they make a heap from place lo on.
 -- The measure is lo. Assumes nothing.
 use Prim.Native.Nat.{◌≤◌, ◌+◌, ◌/◌}
-use native.Mathlib.Omega.{arith}
-use borrow.Author.Rules.{rules}
-use Rattle.memory.specs.Entries.{entry_in}
-use Rattle.queue.specs.Clauses.Order.{ranks}
-use Rattle.queue.proofs.HeapLaws.{heap-higher}
-use Rattle.queue.proofs.SettleLaws.{Settling, settling-start, settling-turn, settling-end}
+use Rattle.queue.proofs.SettleLaws.{Settling}
 use Rattle.queue.proofs.order.settle.Given as goal
 
 abbrev pub invariant-loop-lo : goal.invariant-loop-lo

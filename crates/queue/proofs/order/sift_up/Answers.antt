@@ -1,6 +1,5 @@
 -- `queue::order::sift_up` meets its contract: the entry is written where the hole has come to rest.
 -- Assumes nothing.
-use borrow.Author.Rules.{rules}
 use Rattle.memory.proofs.EntryLaws.{room-only}
 use Rattle.queue.proofs.HoleLaws.{sifted}
 use Rattle.queue.proofs.order.sift_up.Goals as goal

@@ -1,13 +1,10 @@
 -- `queue::order::sink` meets its contract. The loop's invariant: the entries are in another order, and make a heap but that the one of the hole may
 -- come after those under it. The measure is how many places are under it. Assumes nothing.
-use Prim.Native.Nat.{◌-◌, ◌<◌}
-use native.Mathlib.Omega.{arith}
-use mathlib.Core.Logic.{◌≢◌}
-use borrow.Author.Rules.{rules}
+use Prim.Native.Nat.{◌-◌}
 use Rattle.memory.specs.Entries.{entry_in}
 use Rattle.queue.specs.Clauses.Order.{filled, ranks}
-use Rattle.queue.proofs.HeapLaws.{Sinking, sinking-done, sinking-stop}
-use Rattle.queue.proofs.HoleLaws.{Moving, moving-start, moving-turn, sinking-hole, sinking-moved, lowest-filled, there-lower, there-above, sunk}
+use Rattle.queue.proofs.HeapLaws.{Sinking}
+use Rattle.queue.proofs.HoleLaws.{Moving}
 use Rattle.queue.proofs.order.sink.Given as goal
 
 abbrev pub invariant-loop-hole : goal.invariant-loop-hole

@@ -1,6 +1,5 @@
 -- `ring::around::face_near` meets its contract: the face is the one in the slot that was read.
 -- Assumes nothing.
-use borrow.Author.Rules.{rules}
 use Rattle.ring.proofs.around.face_near.Goals as goal
 
 pub returns : goal.returns

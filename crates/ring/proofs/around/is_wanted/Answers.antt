@@ -1,6 +1,5 @@
 -- `ring::around::is_wanted` meets its contract: each way is one clause of the definition.
 -- Assumes nothing.
-use borrow.Author.Rules.{rules}
 use Rattle.ring.proofs.around.is_wanted.Goals as goal
 
 pub returns-then-rising : goal.returns-then-rising

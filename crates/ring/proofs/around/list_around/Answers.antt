@@ -1,6 +1,5 @@
 -- `ring::around::list_around` meets its contract: the faces are gathered, their points marked, the marks taken off; the laws carry each to the next.
 -- Assumes nothing.
-use borrow.Author.Rules.{rules}
 use Rattle.mesh.specs.Clauses.Around.{Collected}
 use Rattle.memory.specs.Layout.{near_from}
 use Rattle.ring.proofs.ListedLaws.{collected-from, gathered-room, gathered-near, marked-near, marked-ready, listed-all}

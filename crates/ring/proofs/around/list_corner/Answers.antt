@@ -1,7 +1,6 @@
 -- `ring::around::list_corner` meets its contract: nothing is done, or a mark is taken off and its point listed; each is one law.
 -- Assumes nothing.
 use mathlib.Core.Path.{sym, ◌∙◌}
-use borrow.Author.Rules.{rules}
 use Rattle.ring.proofs.TakeLaws.{Unmark, taken-unmarked, taken-one}
 use Rattle.ring.proofs.around.list_corner.Goals as goal
 use Rattle.ring.proofs.around.list_corner.Goals.{After-clear_mark}

@@ -1,6 +1,5 @@
 -- `ring::around::list_face` meets its contract: the three corners one after another.
 -- Assumes nothing.
-use borrow.Author.Rules.{rules}
 use Rattle.walk.proofs.FaceLaws.{Corners, corners}
 use Rattle.ring.proofs.TakeLaws.{taken_then, ready-after}
 use Rattle.ring.proofs.around.list_face.Goals as goal

@@ -1,9 +1,8 @@
 -- `ring::around::list_marked` meets its contract. The loop's invariant: the marks of the points of the faces passed are off, and these points listed.
 -- The measure is how many faces are left. Assumes nothing.
-use Prim.Native.Nat.{◌≤◌, ◌-◌}
 use borrow.Author.Rules.{rules}
 use Rattle.ring.proofs.FrameLaws.{framed-list, read-listed, read-proper}
-use Rattle.ring.proofs.TakeLaws.{Taking, taking-none, taking-next, taking-all, ready-after}
+use Rattle.ring.proofs.TakeLaws.{taking-none, taking-next, taking-all, ready-after}
 use Rattle.ring.proofs.around.list_marked.Goals as goal
 
 pub loop-i-init : goal.loop-i-init

@@ -2,12 +2,9 @@
 -- The measure is how many faces are left. Assumes nothing.
 use Prim.Native.Nat.{◌≤◌, ◌-◌}
 use mathlib.Core.Bool.{◌&&◌}
-use borrow.Author.Rules.{rules}
 use Rattle.walk.specs.Faces.{holds}
 use Rattle.ring.specs.Clauses.Wanting.{wanted}
-use Rattle.ring.specs.Clauses.Taking.{Framed}
-use Rattle.ring.proofs.FrameLaws.{framed-marks, framed-room, framed-list, read-listed, read-proper}
-use Rattle.ring.proofs.WantedLaws.{Marking, marking-none, marking-next, marking-all}
+use Rattle.ring.proofs.WantedLaws.{Marking}
 use Rattle.ring.proofs.around.mark_wanted.Given as goal
 
 abbrev pub invariant-loop-i : goal.invariant-loop-i

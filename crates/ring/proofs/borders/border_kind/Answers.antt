@@ -1,6 +1,5 @@
 -- `ring::borders::border_kind` meets its contract, by what `is_border` says of the point.
 -- Assumes nothing.
-use borrow.Author.Rules.{rules}
 use Rattle.ring.proofs.borders.border_kind.Goals as goal
 
 pub returns-then-is_border : goal.returns-then-is_border

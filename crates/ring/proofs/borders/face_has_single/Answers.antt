@@ -1,9 +1,6 @@
 -- `ring::borders::face_has_single` meets its contract: the three points of the face are tried one after another.
 -- Assumes nothing.
-use Prim.Native.Nat.{ℕ}
 use native.Mathlib.Omega.{arith}
-use mathlib.Core.Bool.{Bool}
-use borrow.Author.Rules.{rules}
 use Rattle.ring.specs.Clauses.Marking.{single}
 use Rattle.walk.proofs.FaceLaws.{Corners}
 use Rattle.ring.proofs.MarkLaws.{corners-read}

@@ -1,13 +1,10 @@
 -- `ring::borders::has_single` meets its contract. The loop's invariant: none of the first `i` faces passes.
 -- The measure is what is left of the list. Assumes nothing.
-use Prim.Native.Nat.{◌≤◌, ◌-◌}
 use native.Mathlib.Nat.{le_antisymm}
 use native.Mathlib.Omega.{arith}
 use mathlib.Core.Path.{sym}
-use Rattle.walk.specs.Faces.{face_at}
-use Rattle.ring.specs.Clauses.Marking.{single, some_point}
 use Rattle.lists.proofs.FrameLaws.{but-refl}
-use Rattle.ring.proofs.TurnLaws.{next-slot, NoneOf, none_yet, none_more, one_found}
+use Rattle.ring.proofs.TurnLaws.{next-slot, none_yet, none_more, one_found}
 use Rattle.ring.proofs.borders.has_single.Goals as goal
 
 pub loop-i-init : goal.loop-i-init

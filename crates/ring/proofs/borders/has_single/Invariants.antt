@@ -1,13 +1,9 @@
 -- `ring::borders::has_single` meets its contract. The loop's invariant: none of the first `i` faces passes.
 -- The measure is what is left of the list. Assumes nothing.
 use Prim.Native.Nat.{◌≤◌, ◌-◌}
-use native.Mathlib.Nat.{le_antisymm}
-use native.Mathlib.Omega.{arith}
-use mathlib.Core.Path.{sym}
 use Rattle.walk.specs.Faces.{face_at}
 use Rattle.ring.specs.Clauses.Marking.{single, some_point}
-use Rattle.lists.proofs.FrameLaws.{but-refl}
-use Rattle.ring.proofs.TurnLaws.{next-slot, NoneOf, none_yet, none_more, one_found}
+use Rattle.ring.proofs.TurnLaws.{NoneOf}
 use Rattle.ring.proofs.borders.has_single.Given as goal
 
 abbrev pub invariant-loop-i : goal.invariant-loop-i

@@ -1,6 +1,5 @@
 -- `ring::borders::is_border` meets its contract: marked, a point's mark is the number of faces that it shares with x;
 -- cleared, the memory is what gathering left. Assumes nothing.
-use borrow.Author.Rules.{rules}
 use Rattle.ring.proofs.AroundLaws.{gathered-marks, gathered-looks}
 use Rattle.ring.proofs.BorderLaws.{border-known}
 use Rattle.ring.proofs.borders.is_border.Goals as goal

@@ -1,6 +1,5 @@
 -- `ring::borders::is_single` meets its contract: each test that led to a return is a test of the definition.
 -- Assumes nothing.
-use borrow.Author.Rules.{rules}
 use borrow.Author.Tests.{eq-eqb, ne_eqb}
 use Rattle.ring.proofs.borders.is_single.Goals as goal
 

@@ -1,9 +1,7 @@
 -- `ring::borders::mark_borders` meets its contract. The loop's invariant: the points below `x` have their kinds.
 -- The measure is what is left of the points. Assumes nothing.
-use Prim.Native.Nat.{◌-◌}
 use native.Mathlib.Omega.{arith}
-use borrow.Author.Rules.{rules}
-use Rattle.ring.proofs.KindLaws.{Kinds, kinds-none, kinds-more, kinds-all}
+use Rattle.ring.proofs.KindLaws.{kinds-none, kinds-more, kinds-all}
 use Rattle.ring.proofs.borders.mark_borders.Goals as goal
 
 pub loop-x-init : goal.loop-x-init

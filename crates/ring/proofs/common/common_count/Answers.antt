@@ -1,6 +1,5 @@
 -- `ring::common::common_count` meets its contract: what is counted around remove, of what keep's faces marked, is the common neighbours;
 -- cleared, the memory is as it was. Assumes nothing.
-use borrow.Author.Rules.{rules}
 use Rattle.lists.proofs.FrameLaws.{but-then}
 use Rattle.ring.proofs.AroundLaws.{may-mark, may-look}
 use Rattle.ring.proofs.CommonLaws.{common-known}

@@ -1,7 +1,6 @@
 -- `ring::common::count_face` meets its contract: the three points of the face are counted one after another.
 -- Assumes nothing.
 use native.Mathlib.Omega.{arith}
-use borrow.Author.Rules.{rules}
 use Rattle.walk.proofs.FaceLaws.{Corners}
 use Rattle.ring.proofs.MarkLaws.{corners-read}
 use Rattle.ring.proofs.CommonLaws.{counted-few, face-counted}

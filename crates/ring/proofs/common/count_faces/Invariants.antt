@@ -1,12 +1,8 @@
 -- `ring::common::count_faces` meets its contract. The loop's invariant: the contract holds of the first `i` faces of the list.
 -- The measure is what is left of the list. Assumes nothing.
 use Prim.Native.Nat.{◌≤◌, ◌-◌}
-use native.Mathlib.Nat.{le_antisymm}
-use native.Mathlib.Omega.{arith}
 use Rattle.ring.specs.Clauses.Counting.{Counted}
 use Rattle.ring.specs.Clauses.Marking.{held_in}
-use Rattle.ring.proofs.TurnLaws.{Next, next-slot}
-use Rattle.ring.proofs.CommonLaws.{counted-few, counted_none, counted-more}
 use Rattle.ring.proofs.common.count_faces.Given as goal
 
 abbrev pub invariant-loop-i : goal.invariant-loop-i

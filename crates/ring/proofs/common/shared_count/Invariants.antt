@@ -1,14 +1,8 @@
 -- `ring::common::shared_count` meets its contract. The loop's invariant: `r` of the first `i` faces hold y.
 -- The measure is what is left of the list. Assumes nothing.
 use Prim.Native.Nat.{◌≤◌, ◌-◌}
-use native.Mathlib.Nat.{le_antisymm}
-use native.Mathlib.Omega.{arith}
-use mathlib.Core.Logic.{⊎_elim}
-use mathlib.Core.Path.{ap, ◌∙◌}
-use borrow.Author.Rules.{rules}
 use Rattle.walk.specs.Faces.{holds, face_at}
-use Rattle.ring.proofs.SlotLaws.{slot_small}
-use Rattle.ring.proofs.TurnLaws.{Tally, tally-none, tally-few, tally-more}
+use Rattle.ring.proofs.TurnLaws.{Tally}
 use Rattle.ring.proofs.common.shared_count.Given as goal
 
 abbrev pub invariant-loop-i : goal.invariant-loop-i

@@ -1,7 +1,6 @@
 -- `ring::gathering::gather` meets its contract: the second list leaves the first as it is.
 -- Assumes nothing.
 use native.Mathlib.Omega.{arith}
-use borrow.Author.Rules.{rules}
 use Rattle.ring.proofs.RingLaws.{still-tidy, still-long, both-gathered}
 use Rattle.ring.proofs.gathering.gather.Goals as goal
 

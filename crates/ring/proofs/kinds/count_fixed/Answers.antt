@@ -1,12 +1,9 @@
 -- `ring::kinds::count_fixed` meets its contract. The loop's invariant: the fixed points below `x` are counted.
 -- The measure is what is left of the points. Assumes nothing.
-use Prim.Native.Nat.{◌-◌}
 use native.Mathlib.Omega.{arith}
 use mathlib.Core.Path.{ap, ◌∙◌}
-use mathlib.Core.Logic.{⊎_elim}
-use borrow.Author.Rules.{rules}
 use Rattle.placement.specs.Choices.{kind_of, fixed}
-use Rattle.ring.proofs.KindLaws.{CountedTo, counted_none, counted-few, counted-more, counted-all}
+use Rattle.ring.proofs.KindLaws.{counted_none, counted-few, counted-more, counted-all}
 use Rattle.ring.proofs.kinds.count_fixed.Goals as goal
 use Rattle.ring.proofs.kinds.count_fixed.Goals.{then-is_fixed, else-is_fixed}
 

@@ -1,6 +1,5 @@
 -- `ring::kinds::mark_kinds` meets its contract: the kinds without a margin, the margin over them, and the count of both.
 -- Assumes nothing.
-use borrow.Author.Rules.{rules}
 use Rattle.ring.proofs.KindLaws.{kinds-with-margin, fixed_counted}
 use Rattle.ring.proofs.kinds.mark_kinds.Goals as goal
 

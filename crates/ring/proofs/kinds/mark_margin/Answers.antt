@@ -1,11 +1,8 @@
 -- `ring::kinds::mark_margin` meets its contract. The loop's invariant: the first `i` entries have their kinds.
 -- The measure is what is left of the margin. Assumes nothing.
-use Prim.Native.Nat.{◌-◌}
 use native.Mathlib.Omega.{arith}
 use mathlib.Core.Path.{refl}
-use borrow.Author.Rules.{rules}
-use lib.ListN.{length}
-use Rattle.ring.proofs.KindLaws.{point-fits, Marked, marked-none, entry-below, marked_more, marked_all}
+use Rattle.ring.proofs.KindLaws.{point-fits, marked-none, entry-below, marked_more, marked_all}
 use Rattle.ring.proofs.kinds.mark_margin.Goals as goal
 
 pub loop-i-init : goal.loop-i-init

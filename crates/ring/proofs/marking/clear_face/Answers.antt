@@ -1,7 +1,6 @@
 -- `ring::marking::clear_face` meets its contract: the three points of a proper face are cleared one after another.
 -- Assumes nothing.
 use native.Mathlib.Omega.{arith}
-use borrow.Author.Rules.{rules}
 use Rattle.walk.proofs.FaceLaws.{Corners}
 use Rattle.ring.proofs.MarkLaws.{corners-read, face-cleared}
 use Rattle.ring.proofs.marking.clear_face.Goals as goal

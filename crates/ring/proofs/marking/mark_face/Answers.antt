@@ -1,7 +1,6 @@
 -- `ring::marking::mark_face` meets its contract: the three points of a proper face differ, so each gets 1 more.
 -- Assumes nothing.
 use native.Mathlib.Omega.{arith}
-use borrow.Author.Rules.{rules}
 use Rattle.walk.proofs.FaceLaws.{Corners}
 use Rattle.ring.proofs.MarkLaws.{remarked-most, corners-read, face-marked}
 use Rattle.ring.proofs.marking.mark_face.Goals as goal

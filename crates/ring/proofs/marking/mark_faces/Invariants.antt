@@ -1,10 +1,7 @@
 -- `ring::marking::mark_faces` meets its contract. The loop's invariant: the contract holds of the first `i` faces of the list.
 -- The measure is what is left of the list. Assumes nothing.
 use Prim.Native.Nat.{◌≤◌, ◌-◌}
-use native.Mathlib.Nat.{le_antisymm}
-use native.Mathlib.Omega.{arith}
 use Rattle.mesh.specs.Clauses.Around.{Marked}
-use Rattle.ring.proofs.TurnLaws.{Next, next-slot, marked-none, marked_more, marked-few}
 use Rattle.ring.proofs.marking.mark_faces.Given as goal
 
 abbrev pub invariant-loop-i : goal.invariant-loop-i
