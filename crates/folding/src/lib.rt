@@ -55,11 +55,11 @@ fn fold_mesh(
     sum: Quadric,
     ring: Ring,
 ) -> usize
-    requires tidy_1 { Tidy v f w.old }
-    requires tidy_2 { (fold.keep < v) × (fold.remove < v) × (fold.keep ≢ fold.remove) }
-    requires tidy_3 { Gathered v f w.old fold.keep ring.near ring.nears }
-    requires tidy_4 { Gathered v f w.old fold.remove ring.far ring.fars }
-    requires tidy_5 { (near_from v f ≤ ring.near) × (ring.near + f ≤ ring.far) × (ring.far + f ≤ length w.old) × (3 * v ≤ length p.old) × (10 * v ≤ length q.old) }
+    requires fact_1 { Tidy v f w.old }
+    requires fact_2 { (fold.keep < v) × (fold.remove < v) × (fold.keep ≢ fold.remove) }
+    requires fact_3 { Gathered v f w.old fold.keep ring.near ring.nears }
+    requires fact_4 { Gathered v f w.old fold.remove ring.far ring.fars }
+    requires fact_5 { (near_from v f ≤ ring.near) × (ring.near + f ≤ ring.far) × (ring.far + f ≤ length w.old) × (3 * v ≤ length p.old) × (10 * v ≤ length q.old) }
     requires sum_value { sum ≡ quadric_sum (quadric_at q.old fold.keep) (quadric_at q.old fold.remove) }
     ensures { (limit : LimitS) (bound : Float) → fold.place ≡ pair_place bound (vertex_at v f w.old p.old q.old fold.keep) (vertex_at v f w.old p.old q.old fold.remove) → MeshFolded v f limit bound w.old p.old q.old fold.keep fold.remove w.new p.new q.new result }
 {

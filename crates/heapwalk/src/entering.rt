@@ -136,7 +136,7 @@ pub fn enter_around(
 ) -> usize
     requires fact_1 { Open v f w.old p.old q.old n bounds.size }
     requires fact_2 { x < v }
-    requires x_len_bound { length (open_in v f w.old n) + length (opened_around (rules_of bounds.limit bounds.size) (mesh_of v f w.old p.old q.old) rising x) ≤ 3 * f }
+    requires room { length (open_in v f w.old n) + length (opened_around (rules_of bounds.limit bounds.size) (mesh_of v f w.old p.old q.old) rising x) ≤ 3 * f }
     ensures { Entered v f w.old p.old q.old n bounds.limit bounds.size (opened_around (rules_of bounds.limit bounds.size) (mesh_of v f w.old p.old q.old) rising x) w.new p.new q.new result }
 {
     let count = ring::list_around(w, v, f, rising, x);

@@ -80,11 +80,11 @@ fn open_around(
     x: u32,
     bounds: Bounds,
 ) -> usize
-    requires tidy_1 { Tidy v f w.old }
-    requires tidy_2 { x < v }
-    requires tidy_3 { 3 * v ≤ length p.now }
-    requires tidy_4 { 10 * v ≤ length q.now }
-    requires x_bound { n + length (opened_around (rules_of bounds.limit bounds.size) (mesh_of v f w.old p.now q.now) rising x) ≤ 3 * f }
+    requires fact_1 { Tidy v f w.old }
+    requires fact_2 { x < v }
+    requires fact_3 { 3 * v ≤ length p.now }
+    requires fact_4 { 10 * v ≤ length q.now }
+    requires room { n + length (opened_around (rules_of bounds.limit bounds.size) (mesh_of v f w.old p.now q.now) rising x) ≤ 3 * f }
     ensures { Added v f w.old n (opened_around (rules_of bounds.limit bounds.size) (mesh_of v f w.old p.now q.now) rising x) w.new result }
 {
     let count = ring::list_around(w, v, f, rising, x);
@@ -103,7 +103,7 @@ pub fn open_neighbours(
     bounds: Bounds,
 ) -> usize
     requires tidy { (Tidy v f w.old) × ((keep < v) × ((3 * v ≤ length p.now) × (10 * v ≤ length q.now))) }
-    requires keep_bound { n + length (opened (rules_of bounds.limit bounds.size) (mesh_of v f w.old p.now q.now) keep) ≤ 3 * f }
+    requires room { n + length (opened (rules_of bounds.limit bounds.size) (mesh_of v f w.old p.now q.now) keep) ≤ 3 * f }
     ensures { Added v f w.old n (opened (rules_of bounds.limit bounds.size) (mesh_of v f w.old p.now q.now) keep) w.new result }
 {
     open_around(w, p, q, v, f, n, false, keep, bounds)
@@ -121,7 +121,7 @@ fn open_rising(
     bounds: Bounds,
 ) -> usize
     requires tidy { (Tidy v f w.old) × ((x < v) × ((3 * v ≤ length p.now) × (10 * v ≤ length q.now))) }
-    requires x_bound { n + length (rising_from (rules_of bounds.limit bounds.size) (mesh_of v f w.old p.now q.now) x) ≤ 3 * f }
+    requires room { n + length (rising_from (rules_of bounds.limit bounds.size) (mesh_of v f w.old p.now q.now) x) ≤ 3 * f }
     ensures { Added v f w.old n (rising_from (rules_of bounds.limit bounds.size) (mesh_of v f w.old p.now q.now) x) w.new result }
 {
     open_around(w, p, q, v, f, n, true, x, bounds)

@@ -124,11 +124,11 @@ fn ranked_at(
     i: usize,
     bounds: Bounds,
 ) -> Ranked
-    requires i_bound_1 { i < 3 * f }
-    requires i_bound_2 { Room v f w.now }
-    requires i_bound_3 { ((pair_at v f w.now i).keep < v) × ((pair_at v f w.now i).remove < v) }
-    requires v_in_bounds_1 { 3 * v ≤ length p.now }
-    requires v_in_bounds_2 { 10 * v ≤ length q.now }
+    requires fact_1 { i < 3 * f }
+    requires fact_2 { Room v f w.now }
+    requires fact_3 { ((pair_at v f w.now i).keep < v) × ((pair_at v f w.now i).remove < v) }
+    requires fact_4 { 3 * v ≤ length p.now }
+    requires fact_5 { 10 * v ≤ length q.now }
     ensures { result ≡ ranked_at v f w.now p.now q.now bounds.size i }
 {
     let keep = keep_at(w, v, f, i);
@@ -186,12 +186,12 @@ pub fn least_pair(
     n: usize,
     bounds: Bounds,
 ) -> Least
-    requires n_nonzero_1 { 0 < n }
-    requires n_nonzero_2 { n ≤ 3 * f }
-    requires n_nonzero_3 { Room v f w.now }
-    requires n_nonzero_4 { Named v f w.now n }
-    requires v_in_bounds_1 { 3 * v ≤ length p.now }
-    requires v_in_bounds_2 { 10 * v ≤ length q.now }
+    requires fact_1 { 0 < n }
+    requires fact_2 { n ≤ 3 * f }
+    requires fact_3 { Room v f w.now }
+    requires fact_4 { Named v f w.now n }
+    requires fact_5 { 3 * v ≤ length p.now }
+    requires fact_6 { 10 * v ≤ length q.now }
     ensures { LeastAt v f w.now p.now q.now n bounds.limit bounds.size result }
 {
     let mut least = ranked_at(w, p, q, v, f, 0, bounds);

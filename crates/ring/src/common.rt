@@ -14,9 +14,9 @@ use walk::face_holds;
 
 // How many of the listed faces hold y.
 pub fn shared_count(w: &[u32], f: usize, base: usize, n: usize, y: u32) -> usize
-    requires f_in_bounds_1 { 3 * f ≤ length w.now }
-    requires f_in_bounds_2 { base + n ≤ length w.now }
-    requires n_value { every (λ k. ltb k f) (stretch w.now base n) ≡ true }
+    requires fact_1 { 3 * f ≤ length w.now }
+    requires fact_2 { base + n ≤ length w.now }
+    requires fact_3 { every (λ k. ltb k f) (stretch w.now base n) ≡ true }
     ensures { result ≡ count (λ k. holds y (face_at w.now k)) (stretch w.now base n) }
 {
     let mut r = 0;

@@ -15,7 +15,7 @@ tested-requires c =
 
 pub fold_mesh-gone-requires : goal.fold_mesh-gone-requires
 fold_mesh-gone-requires c =
-    rw c.tested.ensures.w_unchanged (record { tidy_1 = listed-tidy c.args.fold c.requires.fact_1 c.requires.fact_2 c.gather-ring.ensures; tidy_2 = c.requires.fact_2; tidy_3 = c.gather-ring.ensures.ringed.around_keep; tidy_4 = c.gather-ring.ensures.ringed.around_remove; tidy_5 = (c.gather-ring.ensures.ringed.past_pairs, c.gather-ring.ensures.ringed.one_after_other, c.gather-ring.ensures.ringed.within, c.requires.fact_3.0, c.requires.fact_3.1); sum_value = c.sum-sum.ensures ∙ ap₂ quadric_sum c.quadric_at.ensures c.quadric_at-2.ensures })
+    rw c.tested.ensures.w_unchanged (record { fact_1 = listed-tidy c.args.fold c.requires.fact_1 c.requires.fact_2 c.gather-ring.ensures; fact_2 = c.requires.fact_2; fact_3 = c.gather-ring.ensures.ringed.around_keep; fact_4 = c.gather-ring.ensures.ringed.around_remove; fact_5 = (c.gather-ring.ensures.ringed.past_pairs, c.gather-ring.ensures.ringed.one_after_other, c.gather-ring.ensures.ringed.within, c.requires.fact_3.0, c.requires.fact_3.1); sum_value = c.sum-sum.ensures ∙ ap₂ quadric_sum c.quadric_at.ensures c.quadric_at-2.ensures })
 
 pub returns-in-Allowed : goal.returns-in-Allowed
 returns-in-Allowed c = λ limit bound there.

@@ -7,7 +7,7 @@ use Rattle.foldtest.proofs.is_linked.Goals as goal
 
 pub shared_count-shared-requires : goal.shared_count-shared-requires
 shared_count-shared-requires c = let held = may-count c.requires.fact_1 c.requires.fact_2 in
-    record { f_in_bounds_1 = held.0; f_in_bounds_2 = held.1.0; n_value = held.1.1 }
+    record { fact_1 = held.0; fact_2 = held.1.0; fact_3 = held.1.1 }
 
 pub returns-then-shared-lt1 : goal.returns-then-shared-lt1
 returns-then-shared-lt1 c =

@@ -38,7 +38,7 @@ bump-requires-in-Folded c =
 pub enter_around-more-requires : goal.enter_around-more-requires
 enter_around-more-requires c =
     let asked = made-open c.requires (made (goal.at.enter_around-more-requires c).In-Folded) c.bump.ensures c.bump-in-Folded.ensures in
-    record { fact_1 = asked.0; fact_2 = (pair-points c.requires).0; x_len_bound = asked.1 }
+    record { fact_1 = asked.0; fact_2 = (pair-points c.requires).0; room = asked.1 }
 
 pub overflow_sub-left : goal.overflow_sub-left
 overflow_sub-left c = omega (arith, made-live c.requires (made (goal.at.overflow_sub-left c).In-Folded))

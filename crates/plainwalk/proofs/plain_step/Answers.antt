@@ -15,7 +15,7 @@ returns-then-open-eq0 c =
 
 pub least_pair-least-requires : goal.least_pair-least-requires
 least_pair-least-requires c =
-    record { n_nonzero_1 = omega (arith, c.if-open-eq0.false); n_nonzero_2 = open-few c.requires; n_nonzero_3 = c.requires.tidy.room; n_nonzero_4 = open-named c.requires; v_in_bounds_1 = c.requires.points_long; v_in_bounds_2 = c.requires.quadrics_long }
+    record { fact_1 = omega (arith, c.if-open-eq0.false); fact_2 = open-few c.requires; fact_3 = c.requires.tidy.room; fact_4 = open-named c.requires; fact_5 = c.requires.points_long; fact_6 = c.requires.quadrics_long }
 
 pub try_pair-requires : goal.try_pair-requires
 try_pair-requires c =

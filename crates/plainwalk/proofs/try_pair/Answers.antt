@@ -34,7 +34,7 @@ open_neighbours-opened-requires c =
     let asked = made-open c.requires.fact_1 c.requires.fact_2 (made (goal.at.open_neighbours-opened-requires c).In-Folded) c.drop_pairs-kept.ensures in
     record {
       tidy = (asked.0, ((found-points c.requires.fact_1 c.requires.fact_2).0, (asked.1, asked.2)));
-      keep_bound = asked.3;
+      room = asked.3;
     }
 
 pub overflow_sub-left : goal.overflow_sub-left

@@ -1,8 +1,6 @@
 -- `thinning::admitted` meets its contract: the walk is handed a mesh that the checks have admitted, and what the two stages leave is the outcome of the input.
 -- Assumes nothing.
-use mathlib.Core.Path.{◌∙◌}
-use Rattle.meaning.specs.Input.{Input}
-use Rattle.meaning.specs.Call.{Lent, lent, input_of}
+use Rattle.meaning.specs.Call.{lent, input_of}
 use Rattle.checks.specs.Facts.{Admissible}
 use Rattle.checks.proofs.VerdictLaws as verdicts
 use Rattle.thinning.proofs.SizeLaws.{ready}

@@ -1,7 +1,6 @@
 -- `thinning::answered` meets its contract: in each arm the definition's test is decided as the code's, and what `write_mesh` counted fits.
 -- Assumes nothing.
 use mathlib.Core.Path.{refl}
-use borrow.Author.Rules.{rules}
 use Rattle.lists.proofs.FrameLaws.{but-refl}
 use Rattle.thinning.proofs.MemoryLaws.{used-fits, live-fits, written-finished}
 use Rattle.walking.proofs.FitLaws.{below-fits}

@@ -1,6 +1,5 @@
 -- `thinning::copied` meets its contract: the mesh is copied and the work memory cleared.
 -- Assumes nothing.
-use borrow.Author.Rules.{rules}
 use Rattle.walking.proofs.FitLaws.{points_fit, few-fits}
 use Rattle.thinning.proofs.copied.Goals as goal
 

@@ -1,6 +1,5 @@
 -- `thinning::finished` meets its contract: the outcome is answered and written, and the work memory is cleared.
 -- Assumes nothing.
-use mathlib.Core.Path.{◌∙◌}
 use borrow.Author.Rules.{rules}
 use Rattle.thinning.proofs.AdmittedLaws.{clear-asked, left}
 use Rattle.thinning.proofs.finished.Goals as goal

@@ -1,6 +1,5 @@
 -- `thinning::options_of` meets its contract: the limit is the one that is asked for.
 -- Assumes nothing.
-use borrow.Author.Rules.{rules}
 use Rattle.thinning.proofs.options_of.Goals as goal
 
 pub returns : goal.returns

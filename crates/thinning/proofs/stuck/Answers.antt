@@ -1,6 +1,5 @@
 -- `thinning::stuck` meets its contract: the test is the definition's own.
 -- Assumes nothing.
-use borrow.Author.Rules.{rules}
 use mathlib.Core.Path.{◌∙◌}
 use borrow.Author.Tests.{lt-ltb, le-ltb}
 use Rattle.thinning.proofs.stuck.Goals as goal

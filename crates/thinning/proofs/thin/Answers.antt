@@ -1,11 +1,9 @@
 -- `thinning::thin` meets its contract: for any input each arm leaves the outcome that the checks' verdict names.
 -- Assumes nothing.
 use mathlib.Core.Path.{◌≡◌, sym, ◌∙◌}
-use borrow.Author.Rules.{rules}
 use Rattle.meaning.specs.declared.Verdict.TheVariants.{Copied}
-use Rattle.meaning.specs.Input.{Input}
 use Rattle.meaning.specs.Answers.{verdict_of}
-use Rattle.meaning.specs.Call.{Lent, lent, input_of}
+use Rattle.meaning.specs.Call.{lent, input_of}
 use Rattle.checks.proofs.VerdictLaws as verdicts
 use Rattle.thinning.proofs.SizeLaws.{measured}
 use Rattle.thinning.proofs.VerdictLaws as outcomes

@@ -1,5 +1,4 @@
 -- `walking::bounds_of` meets its contract: the bound is that of the unit that was found. Assumes nothing.
-use borrow.Author.Rules.{rules}
 use Rattle.walking.proofs.bounds_of.Goals as goal
 
 pub returns : goal.returns

@@ -1,7 +1,5 @@
 -- `walking::laid_out` meets its contract: what the four steps leave is the mesh at the start.
 -- Assumes nothing.
-use mathlib.Core.Path.{◌∙◌}
-use borrow.Author.Rules.{rules}
 use Rattle.walking.proofs.LaidLaws.{quadrics-asked, laid_out}
 use Rattle.walking.proofs.laid_out.Goals as goal
 

@@ -1,12 +1,10 @@
 -- `walking::list_folds` meets its contract. The loop's invariant: the numbers below `i` are copied. The measure is what is left of `n`.
 -- Assumes nothing.
-use Prim.Native.Nat.{ℕ, ◌+◌, ◌≤◌, ◌-◌}
-use native.Mathlib.Omega.{arith}
-use mathlib.Core.Path.{◌≡◌, refl, ap, ◌∙◌}
-use lib.ListN.{length, get_or, set, length-set}
-use borrow.Author.Rules.{rules}
+use Prim.Native.Nat.{◌≤◌, ◌-◌}
+use mathlib.Core.Path.{◌≡◌}
+use lib.ListN.{length}
 use Rattle.lists.proofs.OverlayLaws.{copied}
-use Rattle.walking.proofs.FoldListLaws.{row, row_more, row-all}
+use Rattle.walking.proofs.FoldListLaws.{row}
 use Rattle.walking.proofs.list_folds.Given as goal
 
 abbrev pub invariant-loop-i : goal.invariant-loop-i

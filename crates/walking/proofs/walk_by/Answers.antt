@@ -1,6 +1,5 @@
 -- `walking::walk_by` meets its contract: each walk is handed what it asks, and states what is asked.
 -- Assumes nothing.
-use borrow.Author.Rules.{rules}
 use Rattle.walking.proofs.WalkedLaws.{plain-room, by-plain, by-heap}
 use Rattle.walking.proofs.walk_by.Goals as goal
 

@@ -1,9 +1,7 @@
 -- `walking::walked` meets its contract: the mesh is laid out, walked and its folds listed, and what stands in memory then is the last mesh of the input.
 -- Assumes nothing.
 use Rattle.walking.proofs.FitLaws.{few-fits}
-use mathlib.Core.Path.{◌≡◌, ◌∙◌}
-use borrow.Author.Rules.{rules}
-use Rattle.meaning.specs.Input.{Input}
+use mathlib.Core.Path.{◌≡◌}
 use Rattle.meaning.specs.Outcome.{target_of}
 use Rattle.walking.specs.Clauses.{input_walked}
 use Rattle.walking.proofs.WalkedLaws.{walk-asked, folds_few, mesh-walked}

@@ -5,7 +5,7 @@ use Rattle.heapwalk.proofs.entering.enter_around.Goals as goal
 
 pub enter_listed-requires : goal.enter_listed-requires
 enter_listed-requires c =
-    record { fact_1 = around-ready c.requires.fact_1 c.requires.fact_2 c.list_around-count.ensures c.args.bounds.limit c.requires.x_len_bound; fact_2 = around-few c.requires.fact_1 c.requires.fact_2 c.list_around-count.ensures }
+    record { fact_1 = around-ready c.requires.fact_1 c.requires.fact_2 c.list_around-count.ensures c.args.bounds.limit c.requires.room; fact_2 = around-few c.requires.fact_1 c.requires.fact_2 c.list_around-count.ensures }
 
 pub returns : goal.returns
 returns c =

@@ -21,7 +21,7 @@ enter_around-n-requires c =
     record {
       fact_1 = c.loop-x.invariant.1.«open»;
       fact_2 = search rules;
-      x_len_bound = starting-room c.requires.fact_1 c.empty.ensures c.args.bounds.limit c.args.bounds.size
+      room = starting-room c.requires.fact_1 c.empty.ensures c.args.bounds.limit c.args.bounds.size
           c.loop-x.x c.loop-x.invariant.1 (search rules);
     }
 

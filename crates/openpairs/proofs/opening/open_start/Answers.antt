@@ -13,7 +13,7 @@ pub open_rising-n-requires : goal.open_rising-n-requires
 open_rising-n-requires c =
     record {
       tidy = (tidy-but (omega arith) c.loop-x.invariant.1.but c.requires.fact_1, (search rules, (c.requires.fact_2, c.requires.fact_3)));
-      x_bound = starting-room c.loop-x.invariant.1 c.requires.fact_1 (search rules);
+      room = starting-room c.loop-x.invariant.1 c.requires.fact_1 (search rules);
     }
 
 pub loop-x-preserved : goal.loop-x-preserved

@@ -7,14 +7,14 @@ use Rattle.openpairs.proofs.pairs.least_pair.Goals as goal
 
 pub ranked_at-least-requires : goal.ranked_at-least-requires
 ranked_at-least-requires c =
-    record { i_bound_1 = search rules; i_bound_2 = search rules; i_bound_3 = c.requires.n_nonzero_4 0 (search rules); v_in_bounds_1 = search rules; v_in_bounds_2 = search rules }
+    record { fact_1 = search rules; fact_2 = search rules; fact_3 = c.requires.fact_4 0 (search rules); fact_4 = search rules; fact_5 = search rules }
 
 pub loop-i-init : goal.loop-i-init
 loop-i-init c = (search rules, leading-first c.ranked_at-least.ensures)
 
 pub ranked_at-next-requires : goal.ranked_at-next-requires
 ranked_at-next-requires c =
-    record { i_bound_1 = search rules; i_bound_2 = search rules; i_bound_3 = c.requires.n_nonzero_4 c.loop-i.i (search rules); v_in_bounds_1 = search rules; v_in_bounds_2 = search rules }
+    record { fact_1 = search rules; fact_2 = search rules; fact_3 = c.requires.fact_4 c.loop-i.i (search rules); fact_4 = search rules; fact_5 = search rules }
 
 pub loop-i-preserved-then-comes_first : goal.loop-i-preserved-then-comes_first
 loop-i-preserved-then-comes_first c =
@@ -26,9 +26,9 @@ loop-i-preserved c =
 
 pub place_of-requires : goal.place_of-requires
 place_of-requires c =
-    let named = leading-named c.loop-i.invariant.0 c.requires.n_nonzero_4 c.loop-i.invariant.1 in
+    let named = leading-named c.loop-i.invariant.0 c.requires.fact_4 c.loop-i.invariant.1 in
     record { fact_1 = search rules; fact_2 = search rules; fact_3 = search rules; fact_4 = named.0; fact_5 = named.1 }
 
 pub returns : goal.returns
 returns c =
-    leading-least (search rules) c.requires.n_nonzero_4 c.loop-i.invariant.1 c.place_of.ensures
+    leading-least (search rules) c.requires.fact_4 c.loop-i.invariant.1 c.place_of.ensures

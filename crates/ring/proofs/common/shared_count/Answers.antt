@@ -14,7 +14,7 @@ loop-i-init c = (omega arith, tally-none _ _ _)
 
 pub face_in-requires : goal.face_in-requires
 face_in-requires c =
-    omega (arith, slot_small c.args.f c.args.w.now c.args.base c.args.n c.requires.n_value c.loop-i.i c.loop-i-test.true)
+    omega (arith, slot_small c.args.f c.args.w.now c.args.base c.args.n c.requires.fact_3 c.loop-i.i c.loop-i-test.true)
 
 pub overflow_add-r : goal.overflow_add-r
 overflow_add-r c = omega (arith, tally-few c.loop-i.invariant.1)
