@@ -13,18 +13,25 @@ use std::{fs, io, str};
 
 // ---- standard output and standard error
 
-// Says on standard error what failed, and why, in the system's words for the error, without the number that std writes behind them.
+// Says what failed, and why, on standard error.
+fn say(rt: &impl Eprint, what: &str, why: &str) {
+    let _ = eprintln!(rt; "thin: {what}: {why}");
+}
+
+// The system's words for an error: what stands before its number, which std writes behind them.
+fn without_number(text: &str) -> &str {
+    match text.split_once(" (os error ") {
+        Some((words, _)) => words,
+        None => text,
+    }
+}
+
+// Says on standard error what failed, and why, in the system's words for the error.
 fn complain(rt: &(impl Eprint + Alloc), what: &str, why: Error) {
-    let _ = match why.to_string(rt.alloc()) {
-        Ok(text) => {
-            let words = match text.split_once(" (os error ") {
-                Some((words, _)) => words,
-                None => text.as_str(),
-            };
-            eprintln!(rt; "thin: {what}: {words}")
-        }
-        Err(_) => eprintln!(rt; "thin: {what}: {why}"),
-    };
+    match why.to_string(rt.alloc()) {
+        Ok(text) => say(rt, what, without_number(text.as_str())),
+        Err(_) => say(rt, what, "out of memory"),
+    }
 }
 
 // Prints to standard output.
@@ -36,7 +43,9 @@ pub fn print(rt: &(impl Print + Eprint + Alloc), bytes: &[u8]) {
 
 // ---- arguments
 
-// The system's numbers for an argument that isn't there, and for one that is too long.
+// The system's numbers of three errors: a file is there, an argument isn't, a name is too long.
+const EEXIST: i32 = 17;
+
 const EINVAL: i32 = 22;
 
 const ENAMETOOLONG: i32 = 36;
@@ -202,11 +211,11 @@ fn make_beside<R: Files>(rt: &R, name: &str, beside: &mut [u8]) -> Made<R::File>
             .open(rt, path)
         {
             Ok(file) => return Made::New(file, length),
-            Err(why) if k < 99 && why.kind() == ErrorKind::AlreadyExists => {}
+            Err(why) if why.kind() == ErrorKind::AlreadyExists => {}
             Err(why) => return Made::Nothing(why),
         }
     }
-    unreachable!()
+    Made::Nothing(Error::from_raw_os_error(EEXIST))
 }
 
 // Writes all bytes into a file, and waits until they have reached its device.

@@ -25,7 +25,7 @@ fn print_refusal(rt: &(impl Print + Eprint + Alloc), line: &[u8], number: u32, p
     files::print(rt, line);
     let mut words = complaint_cells();
     let size = replies::write_complaint(&mut words, number, place);
-    let _ = rt.eprint(str::from_utf8(&words[..size]).unwrap_or(""));
+    let _ = rt.eprint(str::from_utf8(&words[..size]).unwrap());
 }
 
 // What is asked for: a file where one is named by a second argument, else the listing.
