@@ -9,5 +9,5 @@ pub unwrap-path-requires : goal.unwrap-path-requires
 unwrap-path-requires g c =
     let is_name : IsUtf8 c.as_bytes.result.now = rw c.as_bytes.ensures.value c.utf8.name in
     let is_text =
-        text_stored {run = name_beside c.as_bytes.result.now c.loop-k.k} c.name_beside-length.ensures (omega (arith, c.requires)) (text_beside c.as_bytes.result.now c.loop-k.k is_name (omega arith)) in
+    text_stored {run = name_beside c.as_bytes.result.now c.loop-k.k} c.name_beside-length.ensures (omega (arith, c.requires)) (text_beside c.as_bytes.result.now c.loop-k.k is_name (omega arith)) in
     is_ok c.from_utf8.result _ _ c.from_utf8.ensures.cases (λ e told. told.0 is_text)
