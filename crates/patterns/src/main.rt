@@ -5,7 +5,8 @@
 
 ghost use Rattle.std.specs.Prelude.{◌≤◌, ◌<◌};
 
-use libc::{STDIN_FILENO, STDOUT_FILENO};
+use std::io;
+use std::io::Read;
 
 // How many records of each kind came out right, and how many of any kind did not.
 #[derive(Clone, Copy)]
@@ -63,14 +64,12 @@ fn with_record(t: Tally, kind: u8, right: bool) -> Tally {
 }
 
 // A line of a word and a number.
-fn say(word: &[u8], n: u64) {
-    io::write_all(STDOUT_FILENO, word);
-    io::print_decimal(STDOUT_FILENO, n);
-    io::write_all(STDOUT_FILENO, b"\n");
+fn say(rt: &impl Print, word: &str, n: u64) -> io::Result<()> {
+    println!(rt; "{word}{n}")
 }
 
-// The tally of all records of standard input.
-fn counted() -> Tally {
+// The tally of all records of a reader. What fails to be read counts as its end.
+fn counted(input: &mut impl Read) -> Tally {
     let mut t = Tally {
         roots: 0,
         narrowed: 0,
@@ -78,8 +77,8 @@ fn counted() -> Tally {
         wrong: 0,
     };
     let mut record = [0u8; 24];
-    for i in 0usize..1_000_000 {
-        if io::read_full(STDIN_FILENO, &mut record) < 24 {
+    for _ in 0usize..1_000_000 {
+        if input.read_exact(&mut record).is_err() {
             break;
         }
         t = with_record(t, record[0], is_right(&record));
@@ -88,10 +87,10 @@ fn counted() -> Tally {
 }
 
 // Runs every record of standard input, and says how many of each kind came out right.
-fn main() {
-    let t = counted();
-    say(b"roots right ", t.roots);
-    say(b"narrowed right ", t.narrowed);
-    say(b"ordered right ", t.ordered);
-    say(b"wrong ", t.wrong);
+fn main(rt: HostRuntime) -> io::Result<()> {
+    let t = counted(&mut rt.reader());
+    say(&rt, "roots right ", t.roots)?;
+    say(&rt, "narrowed right ", t.narrowed)?;
+    say(&rt, "ordered right ", t.ordered)?;
+    say(&rt, "wrong ", t.wrong)
 }

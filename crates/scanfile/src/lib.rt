@@ -17,7 +17,7 @@ use units::{Unit, unit_of};
 
 pub mod faults;
 pub mod layout;
-mod told;
+pub mod told;
 
 // The longest good file: four heads of 6 bytes, 12 bytes of options, 128 points and 256 faces of 12 bytes each, and 128 points of the
 // margin of 4 bytes each.

@@ -1,4 +1,4 @@
-// The reader for C: what a file is, as a number and nine cells.
+// What a file is, as a number and nine cells, which the crate scanfile_c tells C.
 ghost use Rattle.std.specs.Prelude.{◌≡◌, cond, ℕ, ◌≤◌, length};
 ghost use Rattle.scanfile.specs.declared.Scan.{Scan};
 ghost use Rattle.scanfile.specs.Scans.{scan_of};
@@ -60,8 +60,7 @@ fn tell_good(bytes: &[u8], h: Head, cells: &mut [u32; 9])
 }
 
 // What a file is: the number, with the cells unit, preserve, limited, limit, ratio, points, faces, margin and place.
-#[unsafe(no_mangle)]
-pub extern "C" fn tell_scan(bytes: &[u8], cells: &mut [u32; 9]) -> u32
+pub fn tell_scan(bytes: &[u8], cells: &mut [u32; 9]) -> u32
     ensures number { result ≡ number_of (scan_of bytes.now) }
     ensures cells { cells.new ≡ cells_of bytes.now (scan_of bytes.now) }
 {

@@ -1,5 +1,5 @@
 -- What the program's functions that read and save files ask and leave.
-use Rattle.std.specs.Prelude.{ℕ, ◌+◌, ◌/◌, ◌%◌, ◌≤◌, ◌≡◌, List, ◌∷◌, [], ◌++◌, Bool, true, length}
+use Rattle.std.specs.Prelude.{ℕ, ◌+◌, ◌/◌, ◌%◌, ◌≤◌, ◌≡◌, List, ◌∷◌, [], ◌++◌, Bool, true, length, take, IsUtf8}
 use Rattle.text.specs.Words.{ascii}
 use Rattle.thin.specs.declared.files.Got.{Got}
 use Rattle.thin.specs.declared.files.Got.TheVariants.{Bytes, Failed}
@@ -22,14 +22,15 @@ pub record ReadIn (r : Got) (old new : List ℕ) : Type 0 where
   pub within : size_got r ≤ length new
   pub same_length : length new ≡ length old
 
--- the length of a new file's name is within the room for it, which is as long as it was
-abbrev pub name_length : Made → ℕ
-name_length (New descriptor n) = n
-name_length Nothing = 0
+-- the length of a new file's name is within the room for it, which is as long as it was; and the name is text
+abbrev pub name_length : {F : Type 0} → Made F → ℕ
+name_length (New file n) = n
+name_length (Nothing why) = 0
 
-pub record MadeIn (r : Made) (old new : List ℕ) : Type 0 where
+pub record MadeIn {F : Type 0} (r : Made F) (old new : List ℕ) : Type 0 where
   pub within : name_length r ≤ length new
   pub same_length : length new ≡ length old
+  pub is_text : IsUtf8 (take (name_length r) new)
 
 -- the k-th name for a file beside another
 abbrev pub name_beside : List ℕ → ℕ → List ℕ

@@ -1,54 +1,73 @@
-// The program's files. No contract of the C library says what is read or written, so what these functions do is shown by running;
+// The program's files. No contract of std says what is read or written, so what these functions do is shown by running;
 // what is proved is that no byte is lent that isn't there, and that only a scan file is ever saved.
-ghost use Rattle.std.specs.Prelude.{◌+◌, ◌≤◌, ◌<◌, length};
+ghost use Rattle.std.specs.Prelude.{◌≡◌, ◌+◌, ◌≤◌, ◌<◌, length};
 ghost use Rattle.lists.specs.Puts.{Put};
 ghost use Rattle.replies.specs.Clauses.{IsScan};
 ghost use Rattle.thin.specs.Clauses.{SaysSame, ReadIn, MadeIn, name_beside};
 
-use libc::{STDERR_FILENO, STDIN_FILENO, STDOUT_FILENO};
+use std::env::FillError;
+use std::fs::{OpenFile, OpenOptions};
+use std::io::{Error, ErrorKind, Read, Write};
+use std::rt::{Env, Files};
+use std::{fs, io, str};
 
 // ---- standard output and standard error
 
-// Says on standard error what failed, and why, in the system's words for the error that the last call left.
-fn complain(what: &[u8]) {
-    io::write_all(STDERR_FILENO, b"thin: ");
-    os::fail(what);
+// Says what failed, and why, on standard error.
+fn say(rt: &impl Eprint, what: &str, why: &str) {
+    let _ = eprintln!(rt; "thin: {what}: {why}");
+}
+
+// The system's words for an error: what stands before its number, which std writes behind them.
+fn without_number(text: &str) -> &str {
+    match text.split_once(" (os error ") {
+        Some((words, _)) => words,
+        None => text,
+    }
+}
+
+// Says on standard error what failed, and why, in the system's words for the error.
+fn complain(rt: &(impl Eprint + Alloc), what: &str, why: Error) {
+    match why.to_string(rt.alloc()) {
+        Ok(text) => say(rt, what, without_number(text.as_str())),
+        Err(_) => say(rt, what, "out of memory"),
+    }
 }
 
 // Prints to standard output.
-pub fn print(bytes: &[u8]) {
-    if !io::write_all(STDOUT_FILENO, bytes) {
-        complain(b"standard output");
+pub fn print(rt: &(impl Print + Eprint + Alloc), bytes: &[u8]) {
+    if let Err(why) = rt.write_all(bytes) {
+        complain(rt, "standard output", why);
     }
 }
 
-// ---- reading
+// ---- arguments
 
-// What reading came to: so many bytes; or a failure, of which standard error has a line.
-#[derive(Clone, Copy)]
-pub enum Got {
-    Bytes(usize),
-    Failed,
-}
+// The system's numbers of three errors: a file is there, an argument isn't, a name is too long.
+const EEXIST: i32 = 17;
 
-// Reads what a descriptor leads to, of a name, to its end or until the buffer is full.
-fn read_all(descriptor: i32, name: &[u8], input: &mut [u8]) -> Got
-    ensures { ReadIn result input.old input.new }
+const EINVAL: i32 = 22;
+
+const ENAMETOOLONG: i32 = 36;
+
+// The longest argument, of which a path is as long as the system takes one.
+fn name_cells() -> [u8; 4096]
+    ensures { 4096 ≡ length result }
 {
-    let mut at = 0;
-    while at < input.len() {
-        let got = libc::read(descriptor, &mut input[at..]);
-        if got < 0 {
-            complain(name);
-            return Got::Failed;
-        }
-        let more = io::count(got, &input[at..]);
-        if more == 0 {
-            return Got::Bytes(at);
-        }
-        at += more;
+    [0; 4096]
+}
+
+// Why there is no argument.
+fn why_none(error: FillError) -> Error {
+    match error {
+        FillError::NotPresent => Error::from_raw_os_error(EINVAL),
+        FillError::TooLong => Error::from_raw_os_error(ENAMETOOLONG),
     }
-    Got::Bytes(at)
+}
+
+// Why an argument is no name: std takes names that are text alone.
+fn why_no_name() -> Error {
+    Error::new(ErrorKind::InvalidFilename, "not UTF-8")
 }
 
 // Whether two words are the same.
@@ -68,56 +87,102 @@ fn is_same(word: &[u8], other: &[u8]) -> bool
     true
 }
 
+// Whether an argument is there.
+pub fn has_argument(rt: &impl Env, at: usize) -> bool {
+    !matches!(rt.arg(at, &mut []), Err(FillError::NotPresent))
+}
+
 // Whether an argument is there, and is a word.
-pub fn is_argument(at: usize, word: &[u8]) -> bool {
-    let mut argument = io::buffer();
-    let length = os::arg(at, &mut argument);
-    if os::errno() != 0 {
-        return false;
+pub fn is_argument(rt: &impl Env, at: usize, word: &[u8]) -> bool {
+    let mut argument = name_cells();
+    match rt.arg(at, &mut argument) {
+        Ok(length) => is_same(&argument[..length], word),
+        Err(_) => false,
     }
-    is_same(&argument[..length], word)
+}
+
+// ---- reading
+
+// What reading came to: so many bytes; or a failure, of which standard error has a line.
+#[derive(Clone, Copy)]
+pub enum Got {
+    Bytes(usize),
+    Failed,
+}
+
+// Reads what a reader of a name gives, to its end or until the buffer is full.
+fn read_all(rt: &(impl Eprint + Alloc), from: &mut impl Read, name: &str, input: &mut [u8]) -> Got
+    ensures { ReadIn result input.old input.new }
+{
+    let mut at = 0;
+    while at < input.len() {
+        match from.read(&mut input[at..]) {
+            Ok(0) => return Got::Bytes(at),
+            Ok(more) => at += more,
+            Err(why) => {
+                complain(rt, name, why);
+                return Got::Failed;
+            }
+        }
+    }
+    Got::Bytes(at)
+}
+
+// Reads the file of a name.
+fn read_file(rt: &(impl Files + Eprint + Alloc), name: &str, input: &mut [u8]) -> Got
+    ensures { ReadIn result input.old input.new }
+{
+    match fs::open(rt, name) {
+        Ok(mut file) => read_all(rt, &mut file, name, input),
+        Err(why) => {
+            complain(rt, name, why);
+            Got::Failed
+        }
+    }
 }
 
 // Reads the file of a name, or standard input for -.
-fn read_named(name: &[u8], input: &mut [u8]) -> Got
+fn read_named(rt: &(impl Files + Input + Eprint + Alloc), name: &[u8], input: &mut [u8]) -> Got
     ensures { ReadIn result input.old input.new }
 {
     if is_same(name, b"-") {
-        return read_all(STDIN_FILENO, b"standard input", input);
+        return read_all(rt, &mut rt.reader(), "standard input", input);
     }
-    let descriptor = os::open_read(name);
-    if descriptor < 0 {
-        complain(name);
-        return Got::Failed;
+    match str::from_utf8(name) {
+        Ok(name) => read_file(rt, name, input),
+        Err(_) => {
+            complain(rt, "the name of the file to read", why_no_name());
+            Got::Failed
+        }
     }
-    let got = read_all(descriptor, name, input);
-    libc::close(descriptor);
-    got
 }
 
 // Reads the file that an argument names, or standard input where there is none.
-pub fn read_input(at: usize, input: &mut [u8]) -> Got
+pub fn read_input(
+    rt: &(impl Files + Env + Input + Eprint + Alloc),
+    at: usize,
+    input: &mut [u8],
+) -> Got
     ensures { ReadIn result input.old input.new }
 {
-    if os::arg_count() <= at {
-        return read_all(STDIN_FILENO, b"standard input", input);
+    let mut name = name_cells();
+    match rt.arg(at, &mut name) {
+        Ok(length) => read_named(rt, &name[..length], input),
+        Err(FillError::NotPresent) => read_all(rt, &mut rt.reader(), "standard input", input),
+        Err(error) => {
+            complain(rt, "the name of the file to read", why_none(error));
+            Got::Failed
+        }
     }
-    let mut name = io::buffer();
-    let length = os::arg(at, &mut name);
-    if os::errno() != 0 {
-        complain(b"the name of the file to read");
-        return Got::Failed;
-    }
-    read_named(&name[..length], input)
 }
 
 // ---- writing: a file beside the one that is asked for, filled, and then given its name
 
-// A new file: its descriptor, and how long its name is. Or there is none.
-#[derive(Clone, Copy)]
-enum Made {
-    New(i32, usize),
-    Nothing,
+// A new file, and how long its name is. Or there is none, and why.
+#[derive(Drop)]
+enum Made<F> {
+    New(F, usize),
+    Nothing(Error),
 }
 
 // Writes the k-th name for a file beside another.
@@ -133,81 +198,81 @@ fn name_beside(name: &[u8], k: u8, beside: &mut [u8]) -> usize
 }
 
 // Makes a file beside another, under the first of a hundred names that is free.
-fn make_beside(name: &[u8], beside: &mut [u8]) -> Made
+fn make_beside<R: Files>(rt: &R, name: &str, beside: &mut [u8]) -> Made<R::File>
     requires { length name.now + 8 ≤ length beside.old }
     ensures { MadeIn result beside.old beside.new }
 {
-    let mut k = 0u8;
-    while k < 100 {
-        let length = name_beside(name, k, beside);
-        let descriptor = os::create(&beside[..length]);
-        if descriptor >= 0 {
-            return Made::New(descriptor, length);
+    for k in 0u8..100 {
+        let length = name_beside(name.as_bytes(), k, beside);
+        let path = str::from_utf8(&beside[..length]).unwrap();
+        match OpenOptions::new()
+            .write(true)
+            .create_new(true)
+            .open(rt, path)
+        {
+            Ok(file) => return Made::New(file, length),
+            Err(why) if why.kind() == ErrorKind::AlreadyExists => {}
+            Err(why) => return Made::Nothing(why),
         }
-        if os::errno() != libc::EEXIST {
-            return Made::Nothing;
-        }
-        k += 1;
     }
-    Made::Nothing
+    Made::Nothing(Error::from_raw_os_error(EEXIST))
 }
 
-// Whether all bytes went into a file and reached its device.
-fn is_filled(descriptor: i32, bytes: &[u8]) -> bool {
-    if !io::write_all(descriptor, bytes) {
-        return false;
-    }
-    libc::fsync(descriptor) >= 0
+// Writes all bytes into a file, and waits until they have reached its device.
+fn fill(mut file: impl Write + OpenFile + Drop, bytes: &[u8]) -> io::Result<()> {
+    file.write_all(bytes)?;
+    file.sync_all()
 }
 
 // Fills a new file with a scan, and gives it its name. Where that fails it is removed, and what had the name stays.
-fn put_in_place(descriptor: i32, beside: &[u8], name: &[u8], bytes: &[u8])
+fn put_in_place<R: Files + Eprint + Alloc>(
+    rt: &R,
+    file: R::File,
+    beside: &str,
+    name: &str,
+    bytes: &[u8],
+)
     requires { IsScan bytes.now }
 {
-    if !is_filled(descriptor, bytes) {
-        complain(name);
-        libc::close(descriptor);
-        os::unlink(beside);
+    if let Err(why) = fill(file, bytes) {
+        complain(rt, name, why);
+        let _ = fs::remove_file(rt, beside);
         return;
     }
-    if libc::close(descriptor) < 0 {
-        complain(name);
-        os::unlink(beside);
-        return;
-    }
-    if os::rename(beside, name) < 0 {
-        complain(name);
-        os::unlink(beside);
+    if let Err(why) = fs::rename(rt, beside, name) {
+        complain(rt, name, why);
+        let _ = fs::remove_file(rt, beside);
     }
 }
 
 // Saves a scan under a name, whole or not at all.
-fn save(name: &[u8], bytes: &[u8])
+fn save(rt: &(impl Files + Eprint + Alloc), name: &str, bytes: &[u8])
     requires { IsScan bytes.now }
 {
-    let mut beside = io::buffer();
+    let mut beside = name_cells();
     if 4088 < name.len() {
-        io::write_all(
-            STDERR_FILENO,
-            b"thin: the name of the file to write is too long\n",
-        );
+        let _ = eprintln!(rt; "thin: the name of the file to write is too long");
         return;
     }
-    match make_beside(name, &mut beside) {
-        Made::New(descriptor, length) => put_in_place(descriptor, &beside[..length], name, bytes),
-        Made::Nothing => complain(name),
+    match make_beside(rt, name, &mut beside) {
+        Made::New(file, length) => {
+            let path = str::from_utf8(&beside[..length]).unwrap();
+            put_in_place(rt, file, path, name, bytes);
+        }
+        Made::Nothing(why) => complain(rt, name, why),
     }
 }
 
 // Saves a scan as the file that the second argument names.
-pub fn save_output(bytes: &[u8])
+pub fn save_output(rt: &(impl Files + Env + Eprint + Alloc), bytes: &[u8])
     requires { IsScan bytes.now }
 {
-    let mut name = io::buffer();
-    let length = os::arg(2, &mut name);
-    if os::errno() != 0 {
-        complain(b"the name of the file to write");
-        return;
+    let mut name = name_cells();
+    match rt.arg(2, &mut name) {
+        Ok(length) => match str::from_utf8(&name[..length]) {
+            Ok(name) => save(rt, name, bytes),
+            Err(_) => complain(rt, "the name of the file to write", why_no_name()),
+        },
+        Err(error) => complain(rt, "the name of the file to write", why_none(error)),
     }
-    save(&name[..length], bytes);
 }

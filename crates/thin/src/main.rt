@@ -9,8 +9,9 @@ ghost use Rattle.replies.specs.Clauses.{IsScan};
 mod files;
 
 use files::Got;
-use libc::STDERR_FILENO;
 use replies::{Reply, Wanted};
+use std::rt::{Env, Files};
+use std::str;
 
 // 134 bytes: no complaint takes more.
 fn complaint_cells() -> [u8; 134]
@@ -20,16 +21,16 @@ fn complaint_cells() -> [u8; 134]
 }
 
 // Prints a refusal's line, and says what it means on standard error.
-fn print_refusal(line: &[u8], number: u32, place: u32) {
-    files::print(line);
+fn print_refusal(rt: &(impl Print + Eprint + Alloc), line: &[u8], number: u32, place: u32) {
+    files::print(rt, line);
     let mut words = complaint_cells();
     let size = replies::write_complaint(&mut words, number, place);
-    io::write_all(STDERR_FILENO, &words[..size]);
+    let _ = rt.eprint(str::from_utf8(&words[..size]).unwrap());
 }
 
 // What is asked for: a file where one is named by a second argument, else the listing.
-fn wanted() -> Wanted {
-    if 2 < os::arg_count() {
+fn wanted(rt: &impl Env) -> Wanted {
+    if files::has_argument(rt, 2) {
         Wanted::File
     } else {
         Wanted::Listing
@@ -37,56 +38,56 @@ fn wanted() -> Wanted {
 }
 
 // Prints a listing, or saves a file, which is a scan.
-fn hand_out(wanted: Wanted, bytes: &[u8])
+fn hand_out(rt: &(impl Files + Env + Print + Eprint + Alloc), wanted: Wanted, bytes: &[u8])
     requires { wanted ≡ File → IsScan bytes.now }
 {
     match wanted {
-        Wanted::Listing => files::print(bytes),
-        Wanted::File => files::save_output(bytes),
+        Wanted::Listing => files::print(rt, bytes),
+        Wanted::File => files::save_output(rt, bytes),
     }
 }
 
 // Answers a file. A refusal is printed, and saves nothing.
-fn answer(wanted: Wanted, bytes: &[u8]) {
+fn answer(rt: &(impl Files + Env + Print + Eprint + Alloc), wanted: Wanted, bytes: &[u8]) {
     let mut out = replies::text_cells();
     match replies::write_reply(&mut out, wanted, bytes) {
-        Reply::Mesh(n, _) => hand_out(wanted, &out[..n]),
-        Reply::Refusal(n, number, place, _) => print_refusal(&out[..n], number, place),
+        Reply::Mesh(n, _) => hand_out(rt, wanted, &out[..n]),
+        Reply::Refusal(n, number, place, _) => print_refusal(rt, &out[..n], number, place),
     }
 }
 
 // Answers a file, with the line of the pairs closed.
-fn answer_why(bytes: &[u8]) {
+fn answer_why(rt: &(impl Print + Eprint + Alloc), bytes: &[u8]) {
     let mut out = replies::text_cells();
     match replies::write_why(&mut out, bytes) {
-        Reply::Mesh(n, _) => files::print(&out[..n]),
-        Reply::Refusal(n, number, place, _) => print_refusal(&out[..n], number, place),
+        Reply::Mesh(n, _) => files::print(rt, &out[..n]),
+        Reply::Refusal(n, number, place, _) => print_refusal(rt, &out[..n], number, place),
     }
 }
 
 // Reads the file that the second argument names, and answers it with why.
-fn main_why() {
+fn main_why(rt: &(impl Files + Env + Input + Print + Eprint + Alloc)) {
     let mut input = replies::input_cells();
-    match files::read_input(2, &mut input) {
-        Got::Bytes(n) => answer_why(&input[..n]),
+    match files::read_input(rt, 2, &mut input) {
+        Got::Bytes(n) => answer_why(rt, &input[..n]),
         Got::Failed => {}
     }
 }
 
 // Reads the file that the first argument names, and answers it as it is asked for.
-fn main_plain() {
+fn main_plain(rt: &(impl Files + Env + Input + Print + Eprint + Alloc)) {
     let mut input = replies::input_cells();
-    match files::read_input(1, &mut input) {
-        Got::Bytes(n) => answer(wanted(), &input[..n]),
+    match files::read_input(rt, 1, &mut input) {
+        Got::Bytes(n) => answer(rt, wanted(rt), &input[..n]),
         Got::Failed => {}
     }
 }
 
 // Whether the first argument asks why decides.
-fn main() {
-    if files::is_argument(1, b"--why") {
-        main_why();
+fn main(rt: HostRuntime) {
+    if files::is_argument(&rt, 1, b"--why") {
+        main_why(&rt);
     } else {
-        main_plain();
+        main_plain(&rt);
     }
 }

@@ -1,0 +1,2 @@
+-- Laws of what the program hands to std as text.
+pub mod TextLaws
