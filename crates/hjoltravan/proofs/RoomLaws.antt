@@ -1,7 +1,7 @@
 -- How long the lent buffers are matters only for whether one is too short.
 -- Assumes nothing.
 use mathlib.Core.Path.{◌≡◌, refl, ap, ◌∙◌}
-use mathlib.Core.Bool.{Bool, cond}
+use mathlib.Core.Bool.{cond}
 use lib.ListN.{length}
 use Rattle.meaning.specs.declared.Rooms.{Rooms}
 use Rattle.meaning.specs.declared.Verdict.{Verdict}

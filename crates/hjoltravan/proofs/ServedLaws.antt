@@ -1,7 +1,7 @@
 -- Orders that are done one after another, each as a call alone, are served: no order touches what another reads or writes, and the work memory is zero as far
 -- as the longest stated part that was worked in.
 -- Assumes nothing.
-use Prim.Native.Nat.{ℕ, zero, suc, ◌+◌, ◌*◌, ◌≤◌, ◌<◌, max}
+use Prim.Native.Nat.{ℕ, suc, ◌+◌, ◌*◌, ◌≤◌, ◌<◌}
 use mathlib.Core.Path.{◌≡◌, refl, sym, ap, subst, ◌∙◌}
 use mathlib.Core.Logic.{◌≢◌, inl, inr}
 use mathlib.Core.Bool.{Bool, true, false, ◌&&◌, false≢true}
@@ -10,7 +10,6 @@ use native.Mathlib.Omega.{arith}
 use native.Mathlib.Nat.{not-suc-le-zero, lt_irrefl, le-add_right, mul-suc}
 use lib.Dec.{ltb, leb}
 use lib.ListN.{length, get_or, drop}
-use lib.Ieee.{Float}
 use Rattle.std.proofs.Common.{add-one}
 use Rattle.std.proofs.lemmas.List.{get_or_default}
 use borrow.Author.Tests.{ltb-true, ltb-false, leb-false}
@@ -18,15 +17,15 @@ use Rattle.geometry.specs.Constants.{nought}
 use Rattle.meaning.specs.declared.Options.{Options}
 use Rattle.meaning.specs.Input.{Input}
 use Rattle.meaning.specs.Outcome.{outcome}
-use Rattle.meaning.specs.Call.{Lent, lent, left_as, Answered}
+use Rattle.meaning.specs.Call.{lent, left_as, Answered}
 use Rattle.walking.specs.declared.Engine.TheVariants.{Heap}
 use Rattle.thinning.specs.Told.{five_of, by_reason}
 use Rattle.orders.specs.declared.Part.{Part}
 use Rattle.orders.specs.declared.Order.{Order}
-use Rattle.orders.specs.Parts.{cells_of, replaced}
+use Rattle.orders.specs.Parts.{cells_of}
 use Rattle.orders.specs.Orders.{no_order, order_at}
 use Rattle.serving.specs.Desks.{Sources, Desk, buffers_of, five_at, three_at, lent_to, input_for}
-use Rattle.orders.specs.Refused.{refused, share}
+use Rattle.orders.specs.Refused.{refused}
 use Rattle.serving.specs.Clauses.{AsLong, Fits, OrderDone, OrdersDone, none_yet, one_more}
 use Rattle.orders.proofs.FineLaws.{fine-apart}
 use Rattle.serving.proofs.FineLaws.{fine-fits}

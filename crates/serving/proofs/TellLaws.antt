@@ -4,7 +4,7 @@ use Prim.Native.Nat.{ℕ}
 use mathlib.Core.Path.{◌≡◌, refl, ap, ◌∙◌}
 use mathlib.Core.List.{List, [], ◌∷◌, ◌++◌, append-nil}
 use native.Mathlib.Omega.{arith}
-use lib.ListN.{length, drop, set, drop_of_length-le}
+use lib.ListN.{length, set, drop_of_length-le}
 use Rattle.lists.specs.Lists.{overlaid}
 use Rattle.lists.proofs.OverlayLaws.{over-more, over-three}
 

@@ -1,6 +1,5 @@
 -- `hjoltravan::hjoltravan_thin` meets its contract: what the entry answers by the heap walk, told in five numbers and three.
 -- Assumes nothing.
-use borrow.Author.Rules.{rules}
 use Rattle.meaning.specs.Call.{lent, input_of}
 use Rattle.hjoltravan.proofs.CallLaws.{called}
 use Rattle.hjoltravan.proofs.hjoltravan_thin.Goals as goal

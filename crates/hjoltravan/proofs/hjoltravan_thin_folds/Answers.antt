@@ -1,6 +1,5 @@
 -- `hjoltravan::hjoltravan_thin_folds` meets its contract: what the entry answers by the heap walk, told in five numbers and three, and its folds.
 -- Assumes nothing.
-use borrow.Author.Rules.{rules}
 use Rattle.meaning.specs.Call.{lent, input_of}
 use Rattle.hjoltravan.proofs.CallLaws.{called-with-folds}
 use Rattle.hjoltravan.proofs.hjoltravan_thin_folds.Goals as goal

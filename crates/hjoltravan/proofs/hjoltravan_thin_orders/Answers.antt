@@ -1,6 +1,6 @@
 -- `hjoltravan::hjoltravan_thin_orders` meets its contract: a call that is refused as a whole leaves all as it was; else the orders are done one after
 -- another, each of which fits, and so all are served. Assumes nothing.
-use Rattle.std.proofs.Common.{arith, rules, le_antisymm, ◌∙◌, sym}
+use Rattle.std.proofs.Common.{arith, le_antisymm, ◌∙◌, sym}
 use Rattle.serving.specs.Desks.{sources}
 use Rattle.serving.specs.Clauses.{none_yet}
 use Rattle.hjoltravan.proofs.ServedLaws.{ready, ready-next, called-turned-away, called-served}

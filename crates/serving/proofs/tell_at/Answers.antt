@@ -3,7 +3,6 @@
 use mathlib.Core.Path.{ap, ◌∙◌}
 use mathlib.Core.List.{List}
 use Prim.Native.Nat.{ℕ}
-use borrow.Author.Rules.{rules}
 use Rattle.orders.specs.Parts.{replaced}
 use Rattle.serving.specs.Desks.{five_at, three_at}
 use Rattle.orders.proofs.PartLaws.{part-put}

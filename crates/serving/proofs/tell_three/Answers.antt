@@ -1,6 +1,5 @@
 -- `serving::tell_three` meets its contract: three stores to three cells.
 -- Assumes nothing.
-use borrow.Author.Rules.{rules}
 use Rattle.serving.proofs.TellLaws.{three-stored}
 use Rattle.serving.proofs.tell_three.Goals as goal
 

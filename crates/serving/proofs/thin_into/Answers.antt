@@ -1,6 +1,5 @@
 -- `serving::thin_into` meets its contract: each part lies in its buffer, so that the single call on the parts is made.
 -- Assumes nothing.
-use borrow.Author.Rules.{rules}
 use Rattle.meaning.specs.Call.{lent}
 use Rattle.serving.specs.Desks.{sources}
 use Rattle.serving.proofs.OrderLaws.{thinned-into}

@@ -1,6 +1,5 @@
 -- `serving::thin_order` meets its contract: the order's parts lie in the outputs, what the single call leaves stands in their place, and its answer is told.
 -- Assumes nothing.
-use borrow.Author.Rules.{rules}
 use Rattle.meaning.specs.Call.{lent}
 use Rattle.serving.specs.Desks.{sources}
 use Rattle.serving.proofs.OrderLaws.{order-done}
