@@ -1,5 +1,4 @@
 -- `replies::write_complaint` meets its contract, one part after another. Assumes nothing.
-use borrow.Author.Rules.{rules}
 use Rattle.lists.proofs.PutLaws.{both}
 use Rattle.replies.proofs.write_complaint.Goals as goal
 

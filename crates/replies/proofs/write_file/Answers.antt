@@ -1,5 +1,4 @@
 -- `replies::write_file` meets its contract: what fits is written whole, and never refused. Assumes nothing.
-use borrow.Author.Rules.{rules}
 use Rattle.replies.proofs.ReplyLaws.{file-replied, never-refused}
 use Rattle.replies.proofs.write_file.Goals as goal
 

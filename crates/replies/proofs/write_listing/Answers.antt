@@ -1,5 +1,4 @@
 -- `replies::write_listing` meets its contract: there is room. Assumes nothing.
-use borrow.Author.Rules.{rules}
 use Rattle.replies.proofs.ReplyLaws.{listing-replied}
 use Rattle.replies.proofs.write_listing.Goals as goal
 

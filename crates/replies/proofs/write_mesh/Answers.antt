@@ -1,5 +1,4 @@
 -- `replies::write_mesh` meets its contract, by what was asked for. Assumes nothing.
-use borrow.Author.Rules.{rules}
 use Rattle.replies.proofs.write_mesh.Goals as goal
 
 pub returns-in-Listing : goal.returns-in-Listing

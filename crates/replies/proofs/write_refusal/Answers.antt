@@ -1,5 +1,4 @@
 -- `replies::write_refusal` meets its contract: there is room. Assumes nothing.
-use borrow.Author.Rules.{rules}
 use Rattle.replies.proofs.ReplyLaws.{refusal-replied}
 use Rattle.replies.proofs.write_refusal.Goals as goal
 

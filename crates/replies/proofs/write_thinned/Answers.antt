@@ -2,9 +2,8 @@
 use mathlib.Core.Path.{◌≡◌}
 use borrow.Author.Rules.{rules}
 use Rattle.units.specs.Units.{unit_number}
-use Rattle.meaning.specs.Input.{Input}
-use Rattle.meaning.specs.Call.{Lent, lent, input_of}
-use Rattle.meaning.specs.Outcome.{Outcome, outcome}
+use Rattle.meaning.specs.Call.{lent, input_of}
+use Rattle.meaning.specs.Outcome.{outcome}
 use Rattle.replies.specs.Replies.{head_options, call_of}
 use Rattle.replies.proofs.OutcomeLaws.{counted}
 use Rattle.replies.proofs.ReplyLaws.{same-call, shown, outcome-replied}

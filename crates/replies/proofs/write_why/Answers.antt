@@ -1,5 +1,4 @@
 -- `replies::write_why` meets its contract: whatever the reply is, the line of its closed pairs is put after it. Assumes nothing.
-use borrow.Author.Rules.{rules}
 use Rattle.replies.proofs.ReplyLaws.{why-room, why-mesh, why-refusal}
 use Rattle.replies.proofs.write_why.Goals as goal
 
