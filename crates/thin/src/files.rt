@@ -6,6 +6,7 @@ ghost use Rattle.replies.specs.Clauses.{IsScan};
 ghost use Rattle.thin.specs.Clauses.{SaysSame, ReadIn, MadeIn, name_beside};
 
 use std::env::FillError;
+use std::fmt::Display;
 use std::fs::{OpenFile, OpenOptions};
 use std::io::{Error, ErrorKind, Read, Write};
 use std::rt::{Env, Files};
@@ -14,7 +15,7 @@ use std::{fs, io, str};
 // ---- standard output and standard error
 
 // Says what failed, and why, on standard error.
-fn say(rt: &impl Eprint, what: &str, why: &str) {
+fn say(rt: &impl Eprint, what: &str, why: impl Display + Drop) {
     let _ = eprintln!(rt; "thin: {what}: {why}");
 }
 
@@ -26,11 +27,11 @@ fn without_number(text: &str) -> &str {
     }
 }
 
-// Says on standard error what failed, and why, in the system's words for the error.
+// Says on standard error what failed, and why, in the system's words for the error. Where there is no memory for them, its number stays.
 fn complain(rt: &(impl Eprint + Alloc), what: &str, why: Error) {
     match why.to_string(rt.alloc()) {
         Ok(text) => say(rt, what, without_number(text.as_str())),
-        Err(_) => say(rt, what, "out of memory"),
+        Err(_) => say(rt, what, why),
     }
 }
 
