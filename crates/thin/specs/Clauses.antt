@@ -16,8 +16,8 @@ abbrev pub size_got : Got → ℕ
 size_got (Bytes n) = n
 size_got Failed = 0
 
--- No more bytes were read than there is room for, and there is as much room as before. Which bytes they are hangs on what `read` of the C library does, whose
--- contract says nothing of them.
+-- No more bytes were read than there is room for, and there is as much room as before. Which bytes they are hangs on what the reader gives, and std's contract
+-- says nothing of a file's or standard input's.
 pub record ReadIn (r : Got) (old new : List ℕ) : Type 0 where
   pub within : size_got r ≤ length new
   pub same_length : length new ≡ length old

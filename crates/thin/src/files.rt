@@ -51,7 +51,7 @@ const EINVAL: i32 = 22;
 
 const ENAMETOOLONG: i32 = 36;
 
-// The longest argument, of which a path is as long as the system takes one.
+// Room for an argument: the system takes no path that is longer.
 fn name_cells() -> [u8; 4096]
     ensures { 4096 ≡ length result }
 {
