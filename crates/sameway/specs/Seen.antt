@@ -1,7 +1,7 @@
--- Where it is noted from which point an edge to each point was seen last: in the cells that hold points around a point while a pair is looked at.
+-- From which point an edge to each point was seen last, while it is looked at which way faces run: in V cells of u32, those of `around` in the table of memory's specs/Layout.antt.
 use Rattle.std.specs.Prelude.{ℕ, ◌+◌, ◌*◌, List, get_or}
 
---   u32     seen          21F + 4V    V       1 more than the point from which an edge to this one was seen last, while it is looked at which way faces run
+-- where they begin
 abbrev pub seen_from : ℕ → ℕ → ℕ
 seen_from v f = 21 * f + 4 * v
 

@@ -1,5 +1,6 @@
-// Whether two faces run the same way along an edge: the lowest face that uses an edge from the same point to the same point as a lower face does. No entry calls it yet.
+// Whether two faces run the same way along an edge: the lowest face that uses an edge from the same point to the same point as a lower face does.
 // Point by point, the edges that begin there are looked at in face order, and where each leads is noted at that point. So each edge is looked at once at most.
+// No entry calls it yet: an input with such faces is not refused.
 #![tactic(auto)]
 
 mod seen;
