@@ -1,5 +1,4 @@
 -- Laws on the definitions of specs/, by subject.
-pub mod NotANumber
 pub mod PatternOrder
 pub mod NotBelowZero
 pub mod RootSteps

@@ -8,7 +8,8 @@ use mathlib.Core.List.{List}
 use mathlib.Core.Bool.{Bool, true, false, cond}
 use lib.ListN.{drop, drop_of_length-le}
 use Rattle.walk.specs.Faces.{faces_of, face_at}
-use Rattle.meaning.specs.declared.Verdict.TheVariants.{Refused, Admitted}
+use Rattle.std.specs.Prelude.{Ok, Err}
+use Rattle.meaning.specs.declared.Refusal.TheVariants.{PointOutside, PointTwice}
 use Rattle.meaning.specs.Answers.{outside, doubled, face_verdict}
 use Rattle.checks.proofs.SearchLaws.{length-faces, faces-from}
 use Rattle.meaning.proofs.VerdictOrder.{decides, goes_on}
@@ -25,7 +26,7 @@ module _ (v f : ℕ) (numbers : List ℕ) where
 
   -- face k decides by itself, or the faces after it do
   by-face : {k : ℕ} → Passed k → k < f →
-      cond (outside v (face_at numbers k)) (Refused 8 k) (cond (doubled (face_at numbers k)) (Refused 9 k) (face_verdict v (suc k) (drop (suc k) (faces_of f numbers))))
+      cond (outside v (face_at numbers k)) (Err (PointOutside k)) (cond (doubled (face_at numbers k)) (Err (PointTwice k)) (face_verdict v (suc k) (drop (suc k) (faces_of f numbers))))
       ≡ face_verdict v 0 (faces_of f numbers)
   unfolding face_verdict
   by-face {k} s h = sym (ap (face_verdict v k) (faces-from f numbers k h)) ∙ s.decided
@@ -33,11 +34,11 @@ module _ (v f : ℕ) (numbers : List ℕ) where
   -- what the code found of face k: `out`, whether it names a point not below v, and `double`, whether it names one twice
   module _ {k : ℕ} {out : Bool} (s : Passed k) (h : k < f) (is-out : out ≡ outside v (face_at numbers k)) where
     -- it names a point not below v: 8
-    pub eight : out ≡ true → Refused 8 k ≡ face_verdict v 0 (faces_of f numbers)
+    pub eight : out ≡ true → Err (PointOutside k) ≡ face_verdict v 0 (faces_of f numbers)
     eight t = decides _ _ _ _ is-out t ∙ by-face s h
 
     -- it names only points below v, one of them twice: 9
-    pub nine : out ≡ false → {double : Bool} → double ≡ doubled (face_at numbers k) → double ≡ true → Refused 9 k ≡ face_verdict v 0 (faces_of f numbers)
+    pub nine : out ≡ false → {double : Bool} → double ≡ doubled (face_at numbers k) → double ≡ true → Err (PointTwice k) ≡ face_verdict v 0 (faces_of f numbers)
     nine t is-double d = goes_on _ _ _ _ _ is-out t (decides _ _ _ _ is-double d) ∙ by-face s h
 
     -- it is proper: on to the next face
@@ -49,7 +50,7 @@ module _ (v f : ℕ) (numbers : List ℕ) where
         }
 
   -- past the last face
-  pub all-passed : {k : ℕ} → Passed k → f ≤ k → Admitted ≡ face_verdict v 0 (faces_of f numbers)
+  pub all-passed : {k : ℕ} → Passed k → f ≤ k → Ok tt ≡ face_verdict v 0 (faces_of f numbers)
   unfolding face_verdict
   all-passed {k} s h =
       sym (ap (face_verdict v k) (drop_of_length-le (faces_of f numbers) (le_trans (le_of_eq (length-faces f numbers)) h))) ∙ s.decided

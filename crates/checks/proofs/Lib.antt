@@ -5,7 +5,6 @@ pub mod TestLaws
 pub mod OrderLaws
 pub mod FaceLaws
 pub mod MarginLaws
-pub mod ContentsLaws
 pub mod FaceVerdictLaws
 pub mod VerdictLaws
 pub mod RefusalLaws

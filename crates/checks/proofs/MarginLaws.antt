@@ -10,7 +10,8 @@ use mir.Val.{Fits}
 use lib.ListN.{length}
 use Rattle.lists.specs.Lists.{below}
 use Rattle.lists.proofs.BelowLaws.{length-below, get_d-below}
-use Rattle.meaning.specs.declared.Verdict.TheVariants.{Refused, Admitted}
+use Rattle.std.specs.Prelude.{Ok, Err}
+use Rattle.meaning.specs.declared.Refusal.TheVariants.{BadMargin}
 use Rattle.meaning.specs.Answers.{bad_entry, margin_verdict}
 use Rattle.meaning.proofs.MarginVerdictLaws.{some_bad, entry-decides, margin-admitted, good-few}
 use Rattle.checks.proofs.TestLaws.{none_passes}
@@ -34,7 +35,7 @@ module _ (v : ℕ) (margin : List ℕ) where
   place_fits {k} s few = record { fits = omega (arith, good-few v margin k s.good) }
 
   -- the entry is bad: 12, at that entry
-  pub twelve : {k : ℕ} → Ascends k → k < length margin → bad_entry v margin k ≡ true → Refused 12 k ≡ margin_verdict v margin
+  pub twelve : {k : ℕ} → Ascends k → k < length margin → bad_entry v margin k ≡ true → Err (BadMargin k) ≡ margin_verdict v margin
   twelve {k} s h e =
       sym
       (entry-decides v margin
@@ -50,5 +51,5 @@ module _ (v : ℕ) (margin : List ℕ) where
       none_passes (bad_entry v margin) 0 (below (length margin))
       (λ k h. let l : k < length margin = rw length-below at h in rw (get_d-below (length margin) k l) (good k l))
 
-  pub margin-passed : {k : ℕ} → Ascends k → length margin ≤ k → Admitted ≡ margin_verdict v margin
+  pub margin-passed : {k : ℕ} → Ascends k → length margin ≤ k → Ok tt ≡ margin_verdict v margin
   margin-passed s h = sym (margin-admitted v margin (all-good (λ j l. s.good j (omega arith))))

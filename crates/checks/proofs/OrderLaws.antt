@@ -1,14 +1,10 @@
--- A test that does not hold, as the code finds it.
+-- What an input that is not too large has.
 use Prim.Native.Nat.{ℕ, ◌≤◌}
-use mathlib.Core.Path.{◌≡◌, sym, ◌∙◌}
-use mathlib.Core.Bool.{Bool, false}
+use mathlib.Core.Path.{◌≡◌}
+use mathlib.Core.Bool.{false}
 use borrow.Author.Tests.{ltb-false}
 use Rattle.meaning.specs.Answers.{large}
 use Rattle.lists.proofs.TestLaws.{neither-of}
-
--- a test that the code made does not hold
-pub found-not : (made test : Bool) → made ≡ test → made ≡ false → test ≡ false
-found-not made test e t = sym e ∙ t
 
 -- neither too many points nor too many faces
 pub not-large : (v f : ℕ) → large v f ≡ false → (v ≤ 65536) × (f ≤ 131072)

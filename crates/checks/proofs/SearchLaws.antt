@@ -1,45 +1,30 @@
 -- The search for the first of a list that passes a test, and the faces of a list of point numbers, by their place.
-use Prim.Native.Nat.{ℕ, suc, ◌+◌, ◌≤◌, ◌<◌}
-use native.Mathlib.Numerals.{add-one}
+use Prim.Native.Nat.{ℕ, suc, ◌<◌}
 use native.Mathlib.Omega.{arith}
-use mathlib.Core.Path.{◌≡◌, ap, ◌∙◌}
-use mathlib.Core.List.{List, ◌∷◌}
-use mathlib.Core.Bool.{Bool, true, false}
-use lib.ListN.{length, get_or, drop, drop_of_length-le}
+use mathlib.Core.Path.{◌≡◌, refl, ap, ◌∙◌}
+use mathlib.Core.List.{List, [], ◌∷◌}
+use mathlib.Core.Bool.{Bool, cond}
+use lib.ListN.{length, get_or, drop}
 use lib.Seq.{drop-cons}
 use Rattle.walk.specs.declared.Face.{Face}
-use Rattle.lists.specs.Lists.{first_of}
+use Rattle.std.specs.Prelude.{Some, None, position}
+use Rattle.std.specs.List.{position_or_len}
+use Rattle.lists.specs.Lists.{some, first_of}
+use Rattle.lists.proofs.TestLaws.{by-test}
+use Rattle.lists.proofs.FirstLaws.{some-is-before-the-end}
 use Rattle.walk.specs.Faces.{faces_of, face_at}
 use Rattle.lists.proofs.BelowLaws.{length-each, get_d-each}
 
 -- ---- the search
 
-module _ {A : Type 0} (test : A → Bool) (xs : List A) (d : A) where
-  -- what a search knows at place k: what lies before it has been passed over
-  pub record Searched (k : ℕ) : Type 0 where
-    pub within : k ≤ length xs
-    pub first-left : k + first_of test (drop k xs) ≡ first_of test xs
+-- std's word for the place of the first says the same
+prefix-is : {A : Type 0} (test : A → Bool) (xs : List A) → position_or_len test xs ≡ first_of test xs
+unfolding first_of
+prefix-is test [] = refl
+prefix-is test (x ∷ xs) = by-test (test x) (λ t. rw t) (λ t. rw (t, prefix-is test xs) (omega arith))
 
-  -- at the first place nothing has been passed
-  pub start : Searched 0
-  start = record { within = omega arith; first-left = omega arith }
-
-  -- this one passes: it is the first
-  pub found : {k : ℕ} → Searched k → k < length xs → test (get_or xs k d) ≡ true → k ≡ first_of test xs
-  unfolding first_of
-  found {k} s h e = let q : first_of test (drop k xs) ≡ 0 = rw (drop-cons xs k d h, e) in omega arith
-
-  -- this one fails: on to the next place
-  pub passed : {k : ℕ} → Searched k → k < length xs → test (get_or xs k d) ≡ false → Searched (k + 1)
-  unfolding first_of
-  passed {k} s h e =
-      let q : first_of test (drop k xs) ≡ suc (first_of test (drop (k + 1) xs)) = rw (add-one k, drop-cons xs k d h, e) in
-      record { within = omega arith; first-left = omega arith }
-
-  -- past the end: none passes
-  pub none_left : {k : ℕ} → Searched k → length xs ≤ k → k ≡ first_of test xs
-  unfolding first_of
-  none_left {k} s h = let q : first_of test (drop k xs) ≡ 0 = rw (drop_of_length-le xs h) in omega arith
+pub position-is : {A : Type 0} (test : A → Bool) (xs : List A) → position test xs ≡ cond (some test xs) (Some (first_of test xs)) None
+position-is test xs = rw (prefix-is test xs, some-is-before-the-end test xs)
 
 -- ---- faces by their place
 

@@ -1,5 +1,5 @@
 -- What a verdict says of its input. An input is admitted exactly when it is admissible, and copied exactly when it is copiable.
-use mathlib.Core.Path.{◌≡◌, refl, sym}
+use mathlib.Core.Path.{◌≡◌, refl, sym, ap}
 use mathlib.Core.Bool.{Bool, true, false, ◌&&◌, cond}
 use mathlib.Mathlib.Data.Bool.Basic.{and_intro}
 use borrow.Author.Tests.{ltb-false, le-ltb, not-false}
@@ -10,26 +10,28 @@ use lib.Ieee.Bits.{is_true}
 use denote.Floats.{passes}
 use Rattle.lists.specs.Lists.{some}
 use Rattle.walk.specs.Faces.{faces_of}
-use Rattle.meaning.specs.declared.Verdict.{Verdict}
-use Rattle.meaning.specs.declared.Verdict.TheVariants.{Refused, Copied, Admitted}
+use Rattle.std.specs.Prelude.{⊤, Result, Ok, Err}
+use Rattle.meaning.specs.declared.Refusal.{Refusal}
+use Rattle.meaning.specs.declared.Refusal.TheVariants.{UnevenList, TooLarge, ShortBuffer, EmptyMesh, BadRatio, BadLimit, BadCoordinate, UnknownUnit}
+use Rattle.meaning.specs.declared.Task.TheVariants.{Copied, Admitted}
 use Rattle.meaning.specs.Input.{Input, points_in, faces_in, bound_in}
 use Rattle.bits.specs.Cut.{zero_float, one_float}
-use Rattle.meaning.specs.Answers.{uneven, large, short, empty, bad_ratio, bad_limit, bad_unit, bad_coordinate, face_verdict, margin_verdict, contents_verdict, verdict_of}
+use Rattle.meaning.specs.Answers.{uneven, large, short, empty, bad_ratio, bad_limit, bad_unit, bad_coordinate, number_of, Verdict, and_then, face_verdict, margin_verdict, contents_verdict, verdict_of}
 use Rattle.checks.specs.Facts.{Sized, Copiable, Admissible}
 use Rattle.lists.proofs.TestLaws.{both_true, neither-of}
 use Rattle.checks.proofs.TestLaws.{neither, by_three, even-threes, above_zero, not-zero, each-fails, none_passes}
-use Rattle.meaning.proofs.VerdictOrder.{admits, copies, decides, goes_on, past, both-admit, each-admits, neither-copies}
-use Rattle.meaning.proofs.FaceVerdictLaws.{faces-proper-of, faces-admitted, faces-not-copied}
-use Rattle.meaning.proofs.MarginVerdictLaws.{margin-admitted, margin_good, margin-not-copied, each-good}
+use Rattle.meaning.proofs.VerdictOrder.{admits, copies, decides, goes_on, past, both-pass, each-passes}
+use Rattle.meaning.proofs.FaceVerdictLaws.{faces-proper-of, faces-admitted}
+use Rattle.meaning.proofs.MarginVerdictLaws.{margin-admitted, margin_good, each-good}
 use Rattle.checks.proofs.MarginLaws.{all-good}
 
 -- ---- numbers 1 to 6 and 24
 
 -- the verdicts that none of 1 to 6 and 24 gives
 abbrev late : Verdict → Bool
-late (Refused n p) = leb 7 n && leb n 12
-late Copied = true
-late Admitted = true
+late (Err why) = leb 7 (number_of why) && leb (number_of why) 12
+late (Ok Copied) = true
+late (Ok Admitted) = true
 
 -- none of the tests 1 to 6 and 24 holds, and r is what the lists then give
 pub record PassedUnit (i : Input) (r : Verdict) : Type 0 where
@@ -46,13 +48,13 @@ pub record PassedUnit (i : Input) (r : Verdict) : Type 0 where
 pub passed-unit : (i : Input) {r : Verdict} → late r ≡ true → verdict_of i ≡ r → PassedUnit i r
 unfolding verdict_of
 passed-unit i l e =
-    let a = past late (uneven (length i.points) (length i.faces)) (Refused 1 0) _ refl l e in
-    let b = past late (large (points_in i) (faces_in i)) (Refused 2 0) _ refl l a.1 in
-    let c = past late (short (points_in i) (faces_in i) i.rooms) (Refused 3 0) _ refl l b.1 in
-    let d = past late (empty (points_in i) (faces_in i)) (Refused 4 0) _ refl l c.1 in
-    let f = past late (bad_ratio i.options.ratio) (Refused 5 0) _ refl l d.1 in
-    let g = past late (bad_limit i.options.limit) (Refused 6 0) _ refl l f.1 in
-    let h = past late (bad_unit i.options.unit) (Refused 24 0) _ refl l g.1 in
+    let a = past late (uneven (length i.points) (length i.faces)) (Err UnevenList) _ refl l e in
+    let b = past late (large (points_in i) (faces_in i)) (Err TooLarge) _ refl l a.1 in
+    let c = past late (short (points_in i) (faces_in i) i.rooms) (Err ShortBuffer) _ refl l b.1 in
+    let d = past late (empty (points_in i) (faces_in i)) (Err EmptyMesh) _ refl l c.1 in
+    let f = past late (bad_ratio i.options.ratio) (Err BadRatio) _ refl l d.1 in
+    let g = past late (bad_limit i.options.limit) (Err BadLimit) _ refl l f.1 in
+    let h = past late (bad_unit i.options.unit) (Err UnknownUnit) _ refl l g.1 in
     record { one = a.0; two = b.0; three = c.0; four = d.0; five = f.0; six = g.0; unit = h.0; rest = h.1 }
 
 decided-late : (i : Input) {r : Verdict} → PassedUnit i r → verdict_of i ≡ r
@@ -124,22 +126,23 @@ no-bad-coordinate i s = none_passes (bad_coordinate (bound_in i)) nan i.points s
 -- ---- copied and admitted
 
 -- an admitted input is admissible
-pub admitted : (i : Input) → verdict_of i ≡ Admitted → Admissible i
+pub admitted : (i : Input) → verdict_of i ≡ Ok Admitted → Admissible i
 unfolding contents_verdict
 admitted i e =
     let p = passed-unit i refl e in
-    let seven = past admits (some (bad_coordinate (bound_in i)) i.points) (Refused 7 _) _ refl refl p.rest in
-    let above = past admits (eq i.options.ratio zero_float) Copied _ refl refl seven.1 in
-    let lists = each-admits (face_verdict (points_in i) 0 (faces_of (faces_in i) i.faces)) (margin_verdict (points_in i) i.margin) above.1 in
+    let seven = past admits (some (bad_coordinate (bound_in i)) i.points) (Err (BadCoordinate _)) _ refl refl p.rest in
+    let above = past admits (eq i.options.ratio zero_float) (Ok Copied) _ refl refl seven.1 in
+    let faces = each-passes (face_verdict (points_in i) 0 (faces_of (faces_in i) i.faces)) (and_then (margin_verdict (points_in i) i.margin) (Ok Admitted)) above.1 in
+    let margin = each-passes (margin_verdict (points_in i) i.margin) (Ok Admitted) faces.1 in
     record {
       sized = sized_of i p seven.0;
       ratio_above = above.0;
-      faces_proper = faces-proper-of (points_in i) 0 (faces_of (faces_in i) i.faces) lists.0;
-      margin_good = each-good (points_in i) i.margin (margin_good (points_in i) i.margin lists.1);
+      faces_proper = faces-proper-of (points_in i) 0 (faces_of (faces_in i) i.faces) faces.0;
+      margin_good = each-good (points_in i) i.margin (margin_good (points_in i) i.margin margin.0);
     }
 
 -- an admissible input is admitted
-pub is-admitted : (i : Input) → Admissible i → verdict_of i ≡ Admitted
+pub is-admitted : (i : Input) → Admissible i → verdict_of i ≡ Ok Admitted
 unfolding contents_verdict
 is-admitted i a =
     decided-late i
@@ -148,31 +151,30 @@ is-admitted i a =
     (goes_on _ _ _ _ _ refl (no-bad-coordinate i a.sized)
     (goes_on _ _ _ _ _ refl a.ratio_above
     (sym
-    (both-admit (faces-admitted (points_in i) 0 (faces_of (faces_in i) i.faces) a.faces_proper)
-    (margin-admitted (points_in i) i.margin (all-good (points_in i) i.margin a.margin_good))))))))
+    (both-pass (faces-admitted (points_in i) 0 (faces_of (faces_in i) i.faces) a.faces_proper)
+    (both-pass (margin-admitted (points_in i) i.margin (all-good (points_in i) i.margin a.margin_good)) refl)))))))
 
--- copied, or by lists that never say so
-zero_of : (test : Bool) (lists : Verdict) → (lists ≡ Copied → ⊥) → cond test Copied lists ≡ Copied → test ≡ true
-zero_of true lists never e = refl
-zero_of false lists never e = absurd (never e)
+-- copied, or by the faces and the margin, which never say so
+zero_of : (test : Bool) (faces margin : Result ⊤ Refusal) → cond test (Ok Copied) (and_then faces (and_then margin (Ok Admitted))) ≡ Ok Copied → test ≡ true
+zero_of true faces margin e = refl
+zero_of false (Err why) margin e = ap copies e
+zero_of false (Ok done) (Err why) e = ap copies e
+zero_of false (Ok done) (Ok also) e = ap copies e
 
 -- a copied input is copiable
-pub copied : (i : Input) → verdict_of i ≡ Copied → Copiable i
+pub copied : (i : Input) → verdict_of i ≡ Ok Copied → Copiable i
 unfolding contents_verdict
 copied i e =
     let p = passed-unit i refl e in
-    let seven = past copies (some (bad_coordinate (bound_in i)) i.points) (Refused 7 _) _ refl refl p.rest in
+    let seven = past copies (some (bad_coordinate (bound_in i)) i.points) (Err (BadCoordinate _)) _ refl refl p.rest in
     record {
       sized = sized_of i p seven.0;
       ratio_zero =
-          zero_of (eq i.options.ratio zero_float) _
-          (neither-copies (face_verdict (points_in i) 0 (faces_of (faces_in i) i.faces)) (margin_verdict (points_in i) i.margin)
-          (faces-not-copied (points_in i) 0 (faces_of (faces_in i) i.faces)) (margin-not-copied (points_in i) i.margin))
-          seven.1;
+          zero_of (eq i.options.ratio zero_float) (face_verdict (points_in i) 0 (faces_of (faces_in i) i.faces)) (margin_verdict (points_in i) i.margin) seven.1;
     }
 
 -- a copiable input is copied
-pub is-copied : (i : Input) → Copiable i → verdict_of i ≡ Copied
+pub is-copied : (i : Input) → Copiable i → verdict_of i ≡ Ok Copied
 unfolding contents_verdict
 is-copied i c =
     decided-late i

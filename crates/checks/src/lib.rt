@@ -2,17 +2,22 @@
 // Tests are joined by `|` and `&`: each looks at all its parts, none of which can fail, and answers for NaN too.
 #![tactic(auto)]
 
-ghost use Rattle.std.specs.Prelude.{◌≡◌, ◌+◌, ◌*◌, ◌/◌, ◌≤◌, ◌<◌, cond, length};
-ghost use Rattle.units.specs.Units.{unit_bound, unit_of};
+ghost use Rattle.std.specs.Prelude.{◌≡◌, ◌+◌, ◌*◌, ◌/◌, ◌≤◌, ◌<◌, cond, length, Ok, Err, position};
 ghost use Rattle.walk.specs.Faces.{faces_of, face_at};
-ghost use Rattle.meaning.specs.declared.Verdict.TheVariants.{Refused};
-ghost use Rattle.meaning.specs.Answers.{uneven, large, short, empty, bad_ratio, bad_limit, bad_unit, bad_coordinate, outside, doubled, bad_entry, and_then, face_verdict, margin_verdict, contents_verdict, verdict_of};
-ghost use Rattle.lists.specs.Lists.{first_of};
+ghost use Rattle.meaning.specs.declared.Refusal.TheVariants.{BadCoordinate};
+ghost use Rattle.meaning.specs.Answers.{uneven, large, short, empty, bad_ratio, bad_limit, bad_coordinate, outside, doubled, bad_entry, face_verdict, margin_verdict, verdict_of};
+ghost use Rattle.lists.specs.Lists.{some, first_of};
 
-use meaning::{Options, Rooms, Verdict};
-use placement::Limit;
-use units::{is_unit, unit_bound, unit_of};
+use meaning::{Options, Refusal, Rooms, Task};
+use units::Unit;
 use walk::Face;
+
+// A refusal where a test holds.
+fn refuse_if(test: bool, refusal: Refusal) -> Result<(), Refusal>
+    ensures { result ≡ cond test (Err refusal) (Ok tt) }
+{
+    if test { Err(refusal) } else { Ok(()) }
+}
 
 // 1: a list's length is no multiple of 3.
 fn is_uneven(points: usize, faces: usize) -> bool
@@ -55,13 +60,10 @@ fn bad_ratio(ratio: f32) -> bool
 }
 
 // 6: the length limit is NaN.
-fn bad_limit(limit: Limit) -> bool
+fn bad_limit(limit: Option<f32>) -> bool
     ensures { result ≡ bad_limit limit }
 {
-    match limit {
-        Limit::Unlimited => false,
-        Limit::AtMost(most) => most != most,
-    }
+    limit.is_some_and(|most| most.is_nan())
 }
 
 // 7: a coordinate is not finite, or its size is above the bound.
@@ -72,18 +74,22 @@ fn bad_coordinate(bound: f32, x: f32) -> bool
     !((x < infinity) & (-infinity < x) & (x <= bound) & (-bound <= x))
 }
 
-// The place of the first such coordinate, or the length where there is none.
-fn first_bad(bound: f32, points: &[f32]) -> usize
-    ensures { result ≡ first_of (bad_coordinate bound) points.now }
+// The place of the first such coordinate.
+fn first_bad(bound: f32, points: &[f32]) -> Option<usize>
+    ensures { result ≡ position (bad_coordinate bound) points.now }
 {
-    let mut k = 0;
-    while k < points.len() {
-        if bad_coordinate(bound, points[k]) {
-            return k;
-        }
-        k += 1;
+    points.iter().position(|x| bad_coordinate(bound, *x))
+}
+
+// 7: the first bad coordinate counts.
+fn check_coordinates(bound: f32, points: &[f32]) -> Result<(), Refusal>
+    requires { length points.now / 3 ≤ 65536 }
+    ensures { result ≡ cond (some (bad_coordinate bound) points.now) (Err (BadCoordinate (first_of (bad_coordinate bound) points.now))) (Ok tt) }
+{
+    match first_bad(bound, points) {
+        Some(k) => Err(Refusal::BadCoordinate(k as u32)),
+        None => Ok(()),
     }
-    k
 }
 
 // Face number k of a list of point numbers.
@@ -113,23 +119,16 @@ fn is_doubled(f: Face) -> bool
 }
 
 // 8 and 9: the lowest bad face counts, and within it 8 comes first.
-fn check_faces(v: u32, faces: &[u32]) -> Verdict
+fn check_faces(v: u32, faces: &[u32]) -> Result<(), Refusal>
     requires { length faces.now / 3 ≤ 131072 }
     ensures { result ≡ face_verdict v 0 (faces_of (length faces.now / 3) faces.now) }
 {
-    let count = faces.len() / 3;
-    let mut k = 0;
-    while k < count {
+    for k in 0..faces.len() / 3 {
         let face = face_at(faces, k);
-        if is_outside(v, face) {
-            return Verdict::Refused(8, k as u32);
-        }
-        if is_doubled(face) {
-            return Verdict::Refused(9, k as u32);
-        }
-        k += 1;
+        refuse_if(is_outside(v, face), Refusal::PointOutside(k as u32))?;
+        refuse_if(is_doubled(face), Refusal::PointTwice(k as u32))?;
     }
-    Verdict::Admitted
+    Ok(())
 }
 
 // 12: the margin's entry k is not below v, or not above the entry before it.
@@ -137,96 +136,46 @@ fn bad_entry(v: u32, margin: &[u32], k: usize) -> bool
     requires { k < length margin.now }
     ensures { result ≡ bad_entry v margin.now k }
 {
-    if margin[k] >= v {
-        return true;
-    }
-    if k == 0 {
-        return false;
-    }
-    margin[k] <= margin[k - 1]
+    margin[k] >= v || (k > 0 && margin[k] <= margin[k - 1])
 }
 
 // 12: the margin's first bad entry counts.
-fn check_margin(v: u32, margin: &[u32]) -> Verdict
+fn check_margin(v: u32, margin: &[u32]) -> Result<(), Refusal>
     requires { v ≤ 65536 }
     ensures { result ≡ margin_verdict v margin.now }
 {
-    let mut k = 0;
-    while k < margin.len() {
-        if bad_entry(v, margin, k) {
-            return Verdict::Refused(12, k as u32);
-        }
-        k += 1;
+    for k in 0..margin.len() {
+        refuse_if(bad_entry(v, margin, k), Refusal::BadMargin(k as u32))?;
     }
-    Verdict::Admitted
+    Ok(())
 }
 
-// 8, 9 and 12: the faces, and then the margin.
-fn check_numbers(v: u32, faces: &[u32], margin: &[u32]) -> Verdict
-    requires { (v ≤ 65536) × (length faces.now / 3 ≤ 131072) }
-    ensures { result ≡ and_then (face_verdict v 0 (faces_of (length faces.now / 3) faces.now)) (margin_verdict v margin.now) }
-{
-    match check_faces(v, faces) {
-        Verdict::Refused(number, place) => Verdict::Refused(number, place),
-        Verdict::Copied => Verdict::Copied,
-        Verdict::Admitted => check_margin(v, margin),
-    }
-}
-
-// 7 to 9 and 12: what the lists hold. Ratio zero is answered after 7 and before 8, faces and margin unchecked.
-fn check_contents(points: &[f32], faces: &[u32], margin: &[u32], ratio: f32, bound: f32) -> Verdict
-    requires { (length points.now / 3 ≤ 65536) × (length faces.now / 3 ≤ 131072) }
-    ensures { result ≡ contents_verdict points.now faces.now margin.now ratio bound }
-{
-    let bad = first_bad(bound, points);
-    if bad < points.len() {
-        Verdict::Refused(7, bad as u32)
-    } else if ratio == 0.0 {
-        Verdict::Copied
-    } else {
-        check_numbers((points.len() / 3) as u32, faces, margin)
-    }
-}
-
-// 24: the unit; then what the lists hold, against its bound.
-fn check_measured(points: &[f32], faces: &[u32], margin: &[u32], ratio: f32, unit: u32) -> Verdict
-    requires { (length points.now / 3 ≤ 65536) × (length faces.now / 3 ≤ 131072) }
-    ensures { result ≡ cond (bad_unit unit) (Refused 24 0) (contents_verdict points.now faces.now margin.now ratio (unit_bound (unit_of unit))) }
-{
-    if !is_unit(unit) {
-        return Verdict::Refused(24, 0);
-    }
-    let bound = unit_bound(unit_of(unit));
-    check_contents(points, faces, margin, ratio, bound)
-}
-
-// What an input is: the first of the numbers 1 to 9, 12 and 24 that holds, in their order.
+// What is done with an input, or the first of the numbers 1 to 9, 12 and 24 that holds, in their order.
+// Ratio zero is answered after 7 and before 8, faces and margin unchecked.
+#[tactic(auto, unfolding(meaning::specs::Answers::verdict_of, meaning::specs::Answers::contents_verdict))]
 pub fn verdict_of(
     points: &[f32],
     faces: &[u32],
     margin: &[u32],
     rooms: Rooms,
     options: Options,
-) -> Verdict
+) -> Result<Task, Refusal>
     ensures { result ≡ verdict_of (record { points = points.now; faces = faces.now; margin = margin.now; rooms = rooms; options = options }) }
 {
     let v = points.len() / 3;
     let f = faces.len() / 3;
-    let ratio = options.ratio;
-    let limit = options.limit;
-    if is_uneven(points.len(), faces.len()) {
-        Verdict::Refused(1, 0)
-    } else if is_large(v, f) {
-        Verdict::Refused(2, 0)
-    } else if is_short(v, f, rooms) {
-        Verdict::Refused(3, 0)
-    } else if is_empty(v, f) {
-        Verdict::Refused(4, 0)
-    } else if bad_ratio(ratio) {
-        Verdict::Refused(5, 0)
-    } else if bad_limit(limit) {
-        Verdict::Refused(6, 0)
-    } else {
-        check_measured(points, faces, margin, ratio, options.unit)
+    refuse_if(is_uneven(points.len(), faces.len()), Refusal::UnevenList)?;
+    refuse_if(is_large(v, f), Refusal::TooLarge)?;
+    refuse_if(is_short(v, f, rooms), Refusal::ShortBuffer)?;
+    refuse_if(is_empty(v, f), Refusal::EmptyMesh)?;
+    refuse_if(bad_ratio(options.ratio), Refusal::BadRatio)?;
+    refuse_if(bad_limit(options.limit), Refusal::BadLimit)?;
+    let unit = Unit::try_from(options.unit)?;
+    check_coordinates(unit.bound(), points)?;
+    if options.ratio == 0.0 {
+        return Ok(Task::Copied);
     }
+    check_faces(v as u32, faces)?;
+    check_margin(v as u32, margin)?;
+    Ok(Task::Admitted)
 }

@@ -6,9 +6,9 @@ use mathlib.Core.Path.{◌≡◌, sym, ap, ap₂, ◌∙◌}
 use mathlib.Core.List.{List, map}
 use lib.Ieee.{Float}
 use lib.ListN.{length, set}
+use Rattle.std.specs.Prelude.{Option}
 use Rattle.geometry.specs.declared.Point.{Point}
 use Rattle.geometry.specs.Quadrics.{quadric_sum}
-use Rattle.placement.specs.declared.Limit.{Limit}
 use Rattle.placement.specs.declared.pair.Vertex.{Vertex}
 use Rattle.placement.specs.Choices.{kind_of}
 use Rattle.placement.specs.Pairs.{pair_place, pair_quadric}
@@ -25,7 +25,7 @@ use Rattle.memory.specs.Layout.{kinds_from}
 
 module _ {v f keep remove gone : ℕ} {w w' : List ℕ} (p q : List Float) (keep-v : keep < v) (remove-v : remove < v)
     (p-long : 3 * v ≤ length p) (q-long : 10 * v ≤ length q) (h : FacesFolded v f w keep remove w' gone)
-    (place : Point) (limit : Limit) (bound : Float)
+    (place : Point) (limit : Option Float) (bound : Float)
     (placed : place ≡ pair_place bound (vertex_at v f w p q keep) (vertex_at v f w p q remove)) where
   -- what keep carries is what the two carried, merged
   merged : ◌≡◌ {A = Vertex}

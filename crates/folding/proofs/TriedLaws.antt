@@ -7,11 +7,9 @@ use mathlib.Core.Logic.{◌≢◌}
 use mathlib.Core.List.{List}
 use lib.Ieee.{Float}
 use Rattle.placement.specs.declared.Fold.{Fold}
-use Rattle.placement.specs.declared.Limit.{Limit}
 use Rattle.placement.specs.Pairs.{pair_place}
 use Rattle.walk.specs.declared.Reason.{Reason}
-use Rattle.walk.specs.declared.Tested.{Tested}
-use Rattle.walk.specs.declared.Tested.TheVariants.{Allowed, Not}
+use Rattle.std.specs.Prelude.{⊤, Result, Ok, Err, Option}
 use Rattle.walk.specs.FoldTest.{fold_test}
 use Rattle.walk.specs.Pairs.{pair_of}
 use Rattle.meaning.specs.Arithmetic.{rules_of}
@@ -24,8 +22,6 @@ use Rattle.ring.specs.Clauses.Marking.{Around}
 use Rattle.ring.specs.Clauses.Rings.{RingGathered}
 use Rattle.foldtest.specs.Clauses.Allowed.{tested_at}
 use Rattle.foldtest.proofs.AllowedLaws.{tested-is}
-use Rattle.folding.specs.declared.Tried.{Tried}
-use Rattle.folding.specs.declared.Tried.TheVariants.{Folded, Refused}
 use Rattle.folding.specs.Clauses.Folds.{MeshFolded, FoldTried}
 use lib.ListN.{length}
 use Rattle.placement.specs.declared.pair.Vertex.{Vertex}
@@ -48,7 +44,7 @@ module _ {v f : ℕ} {w w₁ : List ℕ} (fold : Fold) {ring : Ring} (tidy : Tid
         record { above = omega (arith, listed.past_pairs, listed.one_after_other); within = listed.within; gathered = listed.around_remove },
       )
 
-  module _ (p q : List Float) (limit : Limit) (bound : Float)
+  module _ (p q : List Float) (limit : Option Float) (bound : Float)
       (there : fold.place ≡ pair_place bound (vertex_at v f w p q fold.keep) (vertex_at v f w p q fold.remove)) where
     -- and each point what it was
     listed-place : fold.place ≡ pair_place bound (vertex_at v f w₁ p q fold.keep) (vertex_at v f w₁ p q fold.remove)
@@ -59,29 +55,29 @@ module _ {v f : ℕ} {w w₁ : List ℕ} (fold : Fold) {ring : Ring} (tidy : Tid
         (vertex-but v f p q done.but (omega arith) fold.remove points.1))
 
     -- what the test answers, in the words of the definition
-    told : {t : Tested} → t ≡ tested_at v f w₁ p fold.keep fold.remove fold.place →
+    told : {t : Result ⊤ Reason} → t ≡ tested_at v f w₁ p fold.keep fold.remove fold.place →
         fold_test (rules_of limit bound) (mesh_of v f w₁ p q) (pair_of fold.keep fold.remove) ≡ t
     told is = sym (is ∙ tested-is limit bound v f w₁ p q points.0 points.1 listed-place listed-tidy.faces_proper)
 
     -- it passes, and the fold is made
-    pub fold-made : {t : Tested} {w' : List ℕ} {p' q' : List Float} {gone : ℕ} → t ≡ tested_at v f w₁ p fold.keep fold.remove fold.place → t ≡ Allowed →
-        ((limit : Limit) (bound : Float) → fold.place ≡ pair_place bound (vertex_at v f w₁ p q fold.keep) (vertex_at v f w₁ p q fold.remove) →
+    pub fold-made : {t : Result ⊤ Reason} {w' : List ℕ} {p' q' : List Float} {gone : ℕ} → t ≡ tested_at v f w₁ p fold.keep fold.remove fold.place → t ≡ Ok tt →
+        ((limit : Option Float) (bound : Float) → fold.place ≡ pair_place bound (vertex_at v f w₁ p q fold.keep) (vertex_at v f w₁ p q fold.remove) →
         MeshFolded v f limit bound w₁ p q fold.keep fold.remove w' p' q' gone) →
-        FoldTried v f limit bound w p q fold.keep fold.remove w' p' q' (Folded gone)
+        FoldTried v f limit bound w p q fold.keep fold.remove w' p' q' (Ok gone)
     fold-made is passes fold-mesh = record { listed = w₁; but = done.but; came = (told is ∙ passes, fold-mesh limit bound listed-place) }
 
     -- it doesn't, and no cell changes
-    pub fold-refused : {t : Tested} {w' : List ℕ} {reason : Reason} → t ≡ tested_at v f w₁ p fold.keep fold.remove fold.place → t ≡ Not reason → w' ≡ w₁ →
-        FoldTried v f limit bound w p q fold.keep fold.remove w' p q (Refused reason)
+    pub fold-refused : {t : Result ⊤ Reason} {w' : List ℕ} {reason : Reason} → t ≡ tested_at v f w₁ p fold.keep fold.remove fold.place → t ≡ Err reason → w' ≡ w₁ →
+        FoldTried v f limit bound w p q fold.keep fold.remove w' p q (Err reason)
     fold-refused is fails same = record { listed = w₁; but = done.but; came = (told is ∙ fails, same, refl, refl) }
 
 -- what it came to, by the case that it is
-pub tried-as : {v f : ℕ} {limit : Limit} {bound : Float} {w : List ℕ} {p q : List Float} {keep remove : ℕ} {w' : List ℕ} {p' q' : List Float} {r r' : Tried} → r ≡ r' →
+pub tried-as : {v f : ℕ} {limit : Option Float} {bound : Float} {w : List ℕ} {p q : List Float} {keep remove : ℕ} {w' : List ℕ} {p' q' : List Float} {r r' : Result ℕ Reason} → r ≡ r' →
     FoldTried v f limit bound w p q keep remove w' p' q' r → FoldTried v f limit bound w p q keep remove w' p' q' r'
 tried-as {v} {f} {limit} {bound} {w} {p} {q} {keep} {remove} {w'} {p'} {q'} same tried = subst (FoldTried v f limit bound w p q keep remove w' p' q') same tried
 
 -- the faces that are gone and those that are left are the faces before
-module _ {v f : ℕ} {limit : Limit} {bound : Float} {w : List ℕ} {p q : List Float} {keep remove : ℕ} {w' : List ℕ} {p' q' : List Float} {gone : ℕ}
+module _ {v f : ℕ} {limit : Option Float} {bound : Float} {w : List ℕ} {p q : List Float} {keep remove : ℕ} {w' : List ℕ} {p' q' : List Float} {gone : ℕ}
     (fold : MeshFolded v f limit bound w p q keep remove w' p' q' gone) where
   folded-faces : live_faces f w' ≡ folded_faces (live_faces f w) (pair_of keep remove)
   unfolding mesh_of folded_mesh

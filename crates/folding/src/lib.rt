@@ -1,8 +1,7 @@
 // The fold in lent memory (document 01, "A fold moves keep"): tried by the fold test, and made where that allows it.
 #![tactic(auto)]
 
-ghost use Rattle.std.specs.Prelude.{◌≡◌, ◌≢◌, ◌+◌, ◌*◌, ◌≤◌, ◌<◌, length, Float};
-ghost use Rattle.placement.specs.declared.Limit.{Limit as LimitS};
+ghost use Rattle.std.specs.Prelude.{◌≡◌, ◌≢◌, ◌+◌, ◌*◌, ◌≤◌, ◌<◌, length, Float, Option};
 ghost use Rattle.placement.specs.Pairs.{pair_place};
 ghost use Rattle.mesh.specs.Clauses.Chains.{Tidy};
 ghost use Rattle.mesh.specs.Clauses.Around.{Gathered};
@@ -17,14 +16,7 @@ use geometry::Quadric;
 use placement::Fold;
 use ring::Ring;
 use steps::{kill, relist};
-use walk::{Reason, Tested};
-
-// What trying a fold came to: it was made, and so many faces went, or it isn't allowed, and why.
-#[derive(Clone, Copy)]
-pub enum Tried {
-    Folded(usize),
-    Refused(Reason),
-}
+use walk::Reason;
 
 // Folds remove into keep in the faces, by the live faces around the two. Says how many faces went.
 // The chains of both points are dropped and the live faces listed again, so that no chain grows with dead faces.
@@ -61,7 +53,7 @@ fn fold_mesh(
     requires fact_4 { Gathered v f w.old fold.remove ring.far ring.fars }
     requires fact_5 { (near_from v f ≤ ring.near) × (ring.near + f ≤ ring.far) × (ring.far + f ≤ length w.old) × (3 * v ≤ length p.old) × (10 * v ≤ length q.old) }
     requires sum_value { sum ≡ quadric_sum (quadric_at q.old fold.keep) (quadric_at q.old fold.remove) }
-    ensures { (limit : LimitS) (bound : Float) → fold.place ≡ pair_place bound (vertex_at v f w.old p.old q.old fold.keep) (vertex_at v f w.old p.old q.old fold.remove) → MeshFolded v f limit bound w.old p.old q.old fold.keep fold.remove w.new p.new q.new result }
+    ensures { (limit : Option Float) (bound : Float) → fold.place ≡ pair_place bound (vertex_at v f w.old p.old q.old fold.keep) (vertex_at v f w.old p.old q.old fold.remove) → MeshFolded v f limit bound w.old p.old q.old fold.keep fold.remove w.new p.new q.new result }
 {
     let kept = fold.keep as usize;
     memory::set_point(p, kept, fold.place);
@@ -69,7 +61,7 @@ fn fold_mesh(
     fold_faces(w, v, f, fold.keep, fold.remove, ring)
 }
 
-// Tries a fold: it is made where the fold test allows it, and where not the mesh stays as it was. The faces around its two points are listed first. What the
+// Tries a fold: it is made where the fold test allows it, and where not the mesh stays as it was. Says how many faces went, or why it isn't allowed. The faces around its two points are listed first. What the
 // sum of the quadrics takes is read before them, for it lies elsewhere, and the chains are walked meanwhile.
 pub fn try_fold(
     w: &mut [u32],
@@ -78,21 +70,16 @@ pub fn try_fold(
     v: usize,
     f: usize,
     fold: Fold,
-) -> Tried
+) -> Result<usize, Reason>
     requires fact_1 { Tidy v f w.old }
     requires fact_2 { (fold.keep < v) × (fold.remove < v) × (fold.keep ≢ fold.remove) }
     requires fact_3 { (3 * v ≤ length p.old) × (10 * v ≤ length q.old) }
-    ensures { (limit : LimitS) (bound : Float) → fold.place ≡ pair_place bound (vertex_at v f w.old p.old q.old fold.keep) (vertex_at v f w.old p.old q.old fold.remove) → FoldTried v f limit bound w.old p.old q.old fold.keep fold.remove w.new p.new q.new result }
+    ensures { (limit : Option Float) (bound : Float) → fold.place ≡ pair_place bound (vertex_at v f w.old p.old q.old fold.keep) (vertex_at v f w.old p.old q.old fold.remove) → FoldTried v f limit bound w.old p.old q.old fold.keep fold.remove w.new p.new q.new result }
 {
     let kept = fold.keep as usize;
     let removed = fold.remove as usize;
     let sum = memory::quadric_at(q, kept).sum(memory::quadric_at(q, removed));
     let ring = ring::gather(w, v, f, fold.keep, fold.remove);
-    match foldtest::tested(w, p, v, f, fold, ring) {
-        Tested::Allowed => {
-            let gone = fold_mesh(w, p, q, v, f, fold, sum, ring);
-            Tried::Folded(gone)
-        }
-        Tested::Not(reason) => Tried::Refused(reason),
-    }
+    foldtest::tested(w, p, v, f, fold, ring)?;
+    Ok(fold_mesh(w, p, q, v, f, fold, sum, ring))
 }

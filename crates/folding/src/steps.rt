@@ -1,20 +1,21 @@
 // The steps of a fold over the gathered faces: kill, and list again.
-ghost use Rattle.std.specs.Prelude.{◌≡◌, true, cond, ◌+◌, ◌*◌, ◌≤◌, ◌<◌, ltb, length};
+ghost use Rattle.std.specs.Prelude.{◌≡◌, true, ◌+◌, ◌*◌, ◌≤◌, ◌<◌, ltb, length};
 ghost use Rattle.lists.specs.Lists.{count, every, stretch};
 ghost use Rattle.walk.specs.Faces.{holds, face_at};
 ghost use Rattle.folding.specs.Clauses.Steps.{in_turn, killed, corner_of, moved, relisted};
 ghost use Rattle.memory.specs.Layout.{firsts_from};
 
-// Kills the face in a slot if it holds x. Says 1 if it did.
-fn kill_face(w: &mut [u32], f: usize, k: usize, x: u32) -> usize
+// Kills the face in a slot if it holds x. Says whether it did.
+fn kill_face(w: &mut [u32], f: usize, k: usize, x: u32) -> bool
     requires { (k < f) × (4 * f ≤ length w.old) }
-    ensures { (w.new ≡ killed f x k w.old) × (result ≡ cond (holds x (face_at w.old k)) 1 0) }
+    ensures killed { w.new ≡ killed f x k w.old }
+    ensures held { result ≡ holds x (face_at w.old k) }
 {
-    if walk::face_holds(x, memory::face_in(w, f, k)) {
+    let held = memory::face_in(w, f, k).holds(x);
+    if held {
         memory::set_live(w, f, k, 0);
-        return 1;
     }
-    0
+    held
 }
 
 // Kills the faces of a list of slots that hold x. Says how many of the list hold it.
@@ -26,7 +27,9 @@ pub fn kill(w: &mut [u32], f: usize, list: usize, n: usize, x: u32) -> usize
     let mut gone = 0;
     for i in 0..n {
         let k = ring::slot_at(w, list, i);
-        gone += kill_face(w, f, k, x);
+        if kill_face(w, f, k, x) {
+            gone += 1;
+        }
     }
     gone
 }
@@ -60,7 +63,7 @@ fn relist_face(w: &mut [u32], f: usize, k: usize, old: u32, new: u32)
     requires { (k < f) × (firsts_from f + new < length w.old) × (f ≤ 131072) }
     ensures { w.new ≡ relisted f old new k w.old }
 {
-    if memory::live_at(w, f, k) == 1 {
+    if memory::is_live(w, f, k) {
         let c = corner_of(w, k, old);
         move_corner(w, f, c, new);
     }

@@ -7,15 +7,15 @@ use mathlib.Core.Bool.{Bool, true, ◌||◌, cond}
 use lib.Dec.{eqb}
 use lib.Ieee.{Float}
 use lib.ListN.{get_or, drop}
+use Rattle.std.specs.Prelude.{Option}
 use Rattle.geometry.specs.declared.Point.{Point}
-use Rattle.placement.specs.declared.Limit.{Limit}
 use Rattle.placement.specs.declared.pair.Vertex.{Vertex}
 use Rattle.placement.specs.Pairs.{pair_place}
+use Rattle.walk.specs.declared.Reason.{Reason}
 use Rattle.walk.specs.declared.Face.{Face}
 use Rattle.lists.specs.Lists.{every}
 use Rattle.walk.specs.declared.Reason.TheVariants.{NotLinked}
-use Rattle.walk.specs.declared.Tested.{Tested}
-use Rattle.walk.specs.declared.Tested.TheVariants.{Not}
+use Rattle.std.specs.Prelude.{⊤, Result, Err}
 use Rattle.walk.specs.Faces.{proper, data_of, merged_of}
 use Rattle.walk.specs.FoldTest.{linked, or_else, first_harm, moved_of, face_test, fold_test}
 use Rattle.walk.specs.Pairs.{pair_of}
@@ -32,14 +32,14 @@ use Rattle.foldtest.specs.Clauses.Allowed.{tested_at}
 use Rattle.mesh.proofs.AroundLaws.{live-proper}
 
 -- two tests that agree of the faces that pass a third one say the same of faces that all pass it
-first-agree : (test other : ℕ → Face → Tested) (ok : Face → Bool) → ((number : ℕ) (face : Face) → ok face ≡ true → test number face ≡ other number face) →
+first-agree : (test other : ℕ → Face → Result ⊤ Reason) (ok : Face → Bool) → ((number : ℕ) (face : Face) → ok face ≡ true → test number face ≡ other number face) →
     (faces : List Face) (numbers : List ℕ) → every ok faces ≡ true → first_harm test faces numbers ≡ first_harm other faces numbers
 unfolding first_harm
 first-agree test other ok same [] numbers all = refl
 first-agree test other ok same (f ∷ faces) numbers all =
     ap₂ or_else (same (get_or numbers 0 0) f (every-head ok f faces all)) (first-agree test other ok same faces (drop 1 numbers) (every-tail ok f faces all))
 
-module _ (limit : Limit) (bound : Float) (v f : ℕ) (w : List ℕ) (p q : List Float) {keep remove : ℕ} {place : Point}
+module _ (limit : Option Float) (bound : Float) (v f : ℕ) (w : List ℕ) (p q : List Float) {keep remove : ℕ} {place : Point}
     (keep-below : keep < v) (remove-below : remove < v)
     (there : place ≡ pair_place bound (vertex_at v f w p q keep) (vertex_at v f w p q remove)) where
   -- where the mesh has a point, and where it has it after the fold
@@ -76,7 +76,7 @@ module _ (limit : Limit) (bound : Float) (v f : ℕ) (w : List ℕ) (p q : List 
   pub tested-is : Proper v f w → tested_at v f w p keep remove place ≡ fold_test (rules_of limit bound) (mesh_of v f w p q) (pair_of keep remove)
   unfolding tested_at fold_test mesh_of
   tested-is good =
-      ap₂ (λ (n : ℕ) (t : Tested). cond (linked n (live_faces f w) keep remove) t (Not NotLinked))
+      ap₂ (λ (n : ℕ) (t : Result ⊤ Reason). cond (linked n (live_faces f w) keep remove) t (Err NotLinked))
       (sym (mesh-length v f w p q))
       (sym (first-agree (face_test (rules_of limit bound) (mesh_of v f w p q) (pair_of keep remove)) (harm_at p keep remove place) (proper v)
       harm-is (live_faces f w) (live_numbers f w) (live-proper v f w good)))

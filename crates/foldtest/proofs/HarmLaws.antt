@@ -13,8 +13,7 @@ use borrow.Author.Tests.{ltb-true, lt-ltb, eqb-true, eqb-false}
 use Rattle.geometry.specs.declared.Point.{Point}
 use Rattle.walk.specs.declared.Face.{Face}
 use Rattle.walk.specs.declared.Reason.{Reason}
-use Rattle.walk.specs.declared.Tested.{Tested}
-use Rattle.walk.specs.declared.Tested.TheVariants.{Allowed, Not}
+use Rattle.std.specs.Prelude.{⊤, Result, Ok, is_err}
 use Rattle.lists.specs.Lists.{stretch}
 use Rattle.walk.specs.Faces.{holds, proper, face_at}
 use Rattle.walk.specs.FoldTest.{asked, harm, first_harm}
@@ -37,33 +36,20 @@ face-placed v {p} {read} {face} e good long =
     record { a_in = omega arith; b_in = omega arith; c_in = omega arith }
 
 -- what is told of a face that is asked says whether it is harmed
-allowed-neither : (number : ℕ) (s t : Bool) → harm number true s t ≡ Allowed → (s || t) ≡ false
+err-either : (number : ℕ) (s t : Bool) → is_err (harm number true s t) ≡ (s || t)
 unfolding harm
-allowed-neither number true t e = let z : ◌≡◌ {A = ℕ} 0 1 = cc in absurd (omega arith)
-allowed-neither number false true e = let z : ◌≡◌ {A = ℕ} 0 1 = cc in absurd (omega arith)
-allowed-neither number false false e = refl
+err-either number true t = refl
+err-either number false true = refl
+err-either number false false = refl
 
-not-either : (number : ℕ) (s t : Bool) (reason : Reason) → harm number true s t ≡ Not reason → (s || t) ≡ true
-unfolding harm
-not-either number true t reason e = refl
-not-either number false true reason e = refl
-not-either number false false reason e = let z : ◌≡◌ {A = ℕ} 0 1 = cc in absurd (omega arith)
+either-not : (number : ℕ) (s t : Bool) → (s || t) ≡ true → harm number true s t ≢ Ok tt
+either-not number s t some e = clash some (sym (err-either number s t) ∙ ap is_err e)
 
-either-not : (number : ℕ) (s t : Bool) → (s || t) ≡ true → harm number true s t ≢ Allowed
-either-not number s t some e = clash some (allowed-neither number s t e)
-
-module _ (p : List Float) (keep remove : ℕ) (place : Point) (other : ℕ) {read face : Face} (same : read ≡ face) {held : Bool}
-    (answer : held ≡ holds other read) where
-  -- a face that holds the other point is not harmed, and one that doesn't is where the test doesn't allow it
-  pub spared : held ≡ true → false ≡ harmed p keep remove place other face
-  spared t = rw (← same, ← answer, t)
-
-  module _ (left : held ≡ false) (k : ℕ) {t : Tested} (told : t ≡ harm k true (squashed_at p keep remove place read) (turned_at p keep remove place read)) where
-    pub unharmed : t ≡ Allowed → false ≡ harmed p keep remove place other face
-    unharmed e = rw (← same, ← answer, left) (sym (allowed-neither k _ _ (sym told ∙ e)))
-
-    pub is-harmed : {reason : Reason} → t ≡ Not reason → true ≡ harmed p keep remove place other face
-    is-harmed {reason} e = rw (← same, ← answer, left) (sym (not-either k _ _ reason (sym told ∙ e)))
+-- a face that doesn't hold the other point is harmed where the test doesn't allow it
+pub is-harmed : (p : List Float) (keep remove : ℕ) (place : Point) (other : ℕ) {read face : Face} → read ≡ face → {held : Bool} → held ≡ holds other read → held ≡ false →
+    (k : ℕ) {t : Result ⊤ Reason} → t ≡ harm k true (squashed_at p keep remove place read) (turned_at p keep remove place read) →
+    {r : Bool} → r ≡ is_err t → r ≡ harmed p keep remove place other face
+is-harmed p keep remove place other same answer left k told e = rw (← same, ← answer, left) (e ∙ ap is_err told ∙ err-either k _ _)
 
 -- ---- a list of the faces around a point
 
@@ -97,7 +83,7 @@ module _ {v f : ℕ} {w : List ℕ} {x base n : ℕ} (h : Gathered v f w x base 
 
 -- a face that isn't harmed at either point is allowed
 neither-harms : (number : ℕ) (k r s t : Bool) → (k ≡ true → (not r && (s || t)) ≡ false) → (r ≡ true → (not k && (s || t)) ≡ false) →
-    harm number ((k || r) && not (k && r)) s t ≡ Allowed
+    harm number ((k || r) && not (k && r)) s t ≡ Ok tt
 unfolding harm
 neither-harms number true true s t one two = refl
 neither-harms number false false s t one two = refl
@@ -134,7 +120,7 @@ module _ (p : List Float) (place : Point) {v f : ℕ} {w : List ℕ} {keep remov
   lowest = lowest_of removes nearest (stretch w far m)
 
   -- below it none is harmed
-  none-harmed : (j : ℕ) → j < lowest → lives f w j ≡ true → harm_at p keep remove place j (face_at w j) ≡ Allowed
+  none-harmed : (j : ℕ) → j < lowest → lives f w j ≡ true → harm_at p keep remove place j (face_at w j) ≡ Ok tt
   unfolding harm_at
   none-harmed j under is =
       let first = lowest-le keeps f (stretch w near n) in
@@ -180,12 +166,12 @@ module _ (p : List Float) (place : Point) {v f : ℕ} {w : List ℕ} {keep remov
 
 module _ {f : ℕ} {w : List ℕ} {p : List Float} {keep remove : ℕ} {place : Point} {k : ℕ} (h : LowestHarm f w p keep remove place k) where
   -- none is harmed
-  pub faces-allow : f ≤ k → Allowed ≡ first_harm (harm_at p keep remove place) (live_faces f w) (live_numbers f w)
+  pub faces-allow : f ≤ k → Ok tt ≡ first_harm (harm_at p keep remove place) (live_faces f w) (live_numbers f w)
   unfolding live_faces
   faces-allow all = sym (live-none (harm_at p keep remove place) (face_at w) (lives f w) f (λ j l. h.none_below j (omega arith)))
 
   -- the lowest that is
-  pub faces-refuse : k < f → {read : Face} → read ≡ face_at w k → {t : Tested} →
+  pub faces-refuse : k < f → {read : Face} → read ≡ face_at w k → {t : Result ⊤ Reason} →
       t ≡ harm k true (squashed_at p keep remove place read) (turned_at p keep remove place read) →
       t ≡ first_harm (harm_at p keep remove place) (live_faces f w) (live_numbers f w)
   unfolding live_faces harm_at

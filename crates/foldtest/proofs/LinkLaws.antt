@@ -9,13 +9,13 @@ use lib.Ieee.{Float}
 use borrow.Author.Tests.{le-leb, lt-leb}
 use Rattle.geometry.specs.declared.Point.{Point}
 use Rattle.lists.specs.Lists.{count, stretch}
+use Rattle.walk.specs.declared.Reason.{Reason}
 use Rattle.walk.specs.Faces.{holds, common, face_at}
 use Rattle.memory.specs.Memory.{live_faces, live_numbers}
 use Rattle.mesh.specs.Clauses.Around.{Gathered}
 use Rattle.ring.proofs.LiveLaws.{count-gathered}
 use Rattle.walk.specs.declared.Reason.TheVariants.{NotLinked}
-use Rattle.walk.specs.declared.Tested.{Tested}
-use Rattle.walk.specs.declared.Tested.TheVariants.{Not}
+use Rattle.std.specs.Prelude.{⊤, Result, Err}
 use Rattle.walk.specs.FoldTest.{linked, first_harm}
 use Rattle.foldtest.specs.Clauses.Fair.{harm_at}
 use Rattle.foldtest.specs.Clauses.Allowed.{tested_at}
@@ -36,12 +36,12 @@ module _ {v f : ℕ} {w : List ℕ} {keep near n s : ℕ} (remove : ℕ) (at-kee
 module _ (v f : ℕ) (w : List ℕ) (p : List Float) (keep remove : ℕ) (place : Point) {a : Bool}
     (first : a ≡ linked v (live_faces f w) keep remove) where
   -- the points aren't linked
-  pub tested-unlinked : a ≡ false → Not NotLinked ≡ tested_at v f w p keep remove place
+  pub tested-unlinked : a ≡ false → Err NotLinked ≡ tested_at v f w p keep remove place
   unfolding tested_at
   tested-unlinked t = rw (sym first ∙ t)
 
   -- they are, so the faces decide
-  pub tested-by-faces : a ≡ true → {w' : List ℕ} → w' ≡ w → {r : Tested} →
+  pub tested-by-faces : a ≡ true → {w' : List ℕ} → w' ≡ w → {r : Result ⊤ Reason} →
       r ≡ first_harm (harm_at p keep remove place) (live_faces f w') (live_numbers f w') → r ≡ tested_at v f w p keep remove place
   unfolding tested_at
   tested-by-faces t same d = rw (sym first ∙ t) (rw same at d)

@@ -9,7 +9,7 @@ ghost use Rattle.foldtest.specs.Clauses.Fair.{Placed, squashed, turned, moved_at
 use geometry::{Point, normal};
 use memory::point_at;
 use placement::Fold;
-use walk::{Face, Reason, Tested};
+use walk::{Face, Reason};
 
 // The least dot of two normals that decides by squares: half of a smaller one might not be exact.
 const LEAST_DOT: f32 = 1.0e-27;
@@ -89,25 +89,25 @@ fn is_surely_fair(before: Point, after: Point) -> bool
 
 // What is told of the face of a number with these normals: squashed is asked before turned over. Roots take long, so the norms are worked out only
 // where their squares leave it open, and each once.
-fn judged(number: usize, before: Point, after: Point) -> Tested
+fn judged(number: usize, before: Point, after: Point) -> Result<(), Reason>
     ensures { result ≡ harm number true (squashed_normals before after) (turned_normals before after) }
 {
     if is_surely_fair(before, after) {
-        return Tested::Allowed;
+        return Ok(());
     }
     let b = before.norm();
     let a = after.norm();
     if is_squashed(b, a) {
-        return Tested::Not(Reason::Squashed(number));
+        return Err(Reason::Squashed(number));
     }
     if is_turned(b, a, before.dot(after)) {
-        return Tested::Not(Reason::TurnedOver(number));
+        return Err(Reason::TurnedOver(number));
     }
-    Tested::Allowed
+    Ok(())
 }
 
 // What the fold does to the face of a number.
-pub fn tested_face(p: &[f32], number: usize, face: Face, fold: Fold) -> Tested
+pub fn tested_face(p: &[f32], number: usize, face: Face, fold: Fold) -> Result<(), Reason>
     requires { Placed p.now face }
     ensures { result ≡ harm number true (squashed_at p.now fold.keep fold.remove fold.place face) (turned_at p.now fold.keep fold.remove fold.place face) }
 {

@@ -18,8 +18,8 @@ ghost use Rattle.foldtest.specs.Clauses.Allowed.{tested_at};
 use fair::tested_face;
 use memory::face_in;
 use placement::Fold;
-use ring::{Ring, common_count, shared_count, slot_at};
-use walk::{Reason, Tested, face_holds};
+use ring::{Ring, common_count, shared_count};
+use walk::Reason;
 
 // Whether the face in a slot is harmed by the fold: it doesn't hold the other point, and is squashed or turned over.
 fn is_harmed(w: &[u32], p: &[f32], v: usize, f: usize, k: usize, other: u32, fold: Fold) -> bool
@@ -30,13 +30,7 @@ fn is_harmed(w: &[u32], p: &[f32], v: usize, f: usize, k: usize, other: u32, fol
     ensures { result ≡ harmed p.now fold.keep fold.remove fold.place other (face_at w.now k) }
 {
     let face = face_in(w, f, k);
-    if face_holds(other, face) {
-        return false;
-    }
-    match tested_face(p, k, face, fold) {
-        Tested::Allowed => false,
-        Tested::Not(_) => true,
-    }
+    !face.holds(other) && tested_face(p, k, face, fold).is_err()
 }
 
 // The number of a slot if it is below another number and its face is harmed, or else that number. A face that isn't below it isn't asked.
@@ -83,9 +77,8 @@ fn lowest_harmed(
     ensures { result ≡ lowest_of (λ k. harmed p.now fold.keep fold.remove fold.place other (face_at w.now k)) from (stretch w.now base n) }
 {
     let mut lowest = from;
-    for i in 0..n {
-        let k = slot_at(w, base, i);
-        lowest = lower_harmed(w, p, v, f, k, other, fold, lowest);
+    for &k in &w[base..base + n] {
+        lowest = lower_harmed(w, p, v, f, k as usize, other, fold, lowest);
     }
     lowest
 }
@@ -119,7 +112,14 @@ fn is_linked(w: &mut [u32], v: usize, f: usize, fold: Fold, ring: Ring) -> bool
 }
 
 // What the faces around the two points say: allowed, or what the fold does to the lowest face that it harms.
-fn tested_faces(w: &[u32], p: &[f32], v: usize, f: usize, fold: Fold, ring: Ring) -> Tested
+fn tested_faces(
+    w: &[u32],
+    p: &[f32],
+    v: usize,
+    f: usize,
+    fold: Fold,
+    ring: Ring,
+) -> Result<(), Reason>
     requires fact_1 { Tidy v f w.now }
     requires fact_2 { 3 * v ≤ length p.now }
     requires fact_3 { Around v f w.now fold.keep ring.near ring.nears }
@@ -130,11 +130,18 @@ fn tested_faces(w: &[u32], p: &[f32], v: usize, f: usize, fold: Fold, ring: Ring
     if k < f {
         return tested_face(p, k, face_in(w, f, k), fold);
     }
-    Tested::Allowed
+    Ok(())
 }
 
 // The fold test, by the live faces around the two points.
-pub fn tested(w: &mut [u32], p: &[f32], v: usize, f: usize, fold: Fold, ring: Ring) -> Tested
+pub fn tested(
+    w: &mut [u32],
+    p: &[f32],
+    v: usize,
+    f: usize,
+    fold: Fold,
+    ring: Ring,
+) -> Result<(), Reason>
     requires fact_1 { Tidy v f w.old }
     requires fact_2 { 3 * v ≤ length p.now }
     requires fact_3 { Around v f w.old fold.keep ring.near ring.nears }
@@ -142,8 +149,8 @@ pub fn tested(w: &mut [u32], p: &[f32], v: usize, f: usize, fold: Fold, ring: Ri
     ensures value { result ≡ tested_at v f w.old p.now fold.keep fold.remove fold.place }
     ensures w_unchanged { w.new ≡ w.old }
 {
-    if is_linked(w, v, f, fold, ring) {
-        return tested_faces(w, p, v, f, fold, ring);
+    if !is_linked(w, v, f, fold, ring) {
+        return Err(Reason::NotLinked);
     }
-    Tested::Not(Reason::NotLinked)
+    tested_faces(w, p, v, f, fold, ring)
 }

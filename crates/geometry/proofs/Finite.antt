@@ -1,12 +1,11 @@
--- A float is finite where it lies between the infinities. Assumes nothing.
+-- std's test of a float, `x.is_finite()`, is the one that the definitions make. Assumes nothing.
 use mathlib.Core.Path.{◌≡◌, refl}
-use mathlib.Core.Bool.{true, false, ◌&&◌}
-use lib.Ieee.{Float, nan, inf, fin, lt}
+use lib.Ieee.{Float, nan, inf, fin}
 use lib.Ieee.Scale.{finite}
+use Rattle.std.specs.Float.{float_is_finite}
 
-pub between : (x : Float) → (lt (inf true) x && lt x (inf false)) ≡ finite x
-unfolding lt
-between nan = refl
-between (inf true) = refl
-between (inf false) = refl
-between (fin s m e) = refl
+pub is-finite : (x : Float) → float_is_finite x ≡ finite x
+unfolding float_is_finite
+is-finite nan = refl
+is-finite (inf s) = refl
+is-finite (fin s m e) = refl

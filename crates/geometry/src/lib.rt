@@ -2,7 +2,6 @@
 #![tactic(auto)]
 
 ghost use Rattle.std.specs.Prelude.{◌≡◌};
-ghost use Rattle.std.specs.Float.Ieee.Scale.{finite};
 ghost use Rattle.geometry.specs.Points.{difference, cross, dot, over, norm, middle, normal, all_finite};
 ghost use Rattle.geometry.specs.Planes.{plane_of, unit_normal};
 ghost use Rattle.geometry.specs.Quadrics.{zero_quadric, of_plane, quadric_sum};
@@ -37,14 +36,6 @@ pub struct Quadric {
     pub m33: f64,
     pub m34: f64,
     pub m44: f64,
-}
-
-// Whether a float is finite. A finite one lies between the infinities; a NaN lies nowhere.
-pub fn is_finite(x: f64) -> bool
-    ensures { result ≡ finite x }
-{
-    let infinity = 1.0 / 0.0;
-    (-infinity < x) & (x < infinity)
 }
 
 impl Point {
@@ -110,9 +101,7 @@ impl Point {
     pub fn all_finite(self) -> bool
         ensures { result ≡ all_finite self }
     {
-        is_finite(bits::widen(self.x))
-            & is_finite(bits::widen(self.y))
-            & is_finite(bits::widen(self.z))
+        self.x.is_finite() & self.y.is_finite() & self.z.is_finite()
     }
 }
 

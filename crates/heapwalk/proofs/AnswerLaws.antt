@@ -12,12 +12,10 @@ use lib.Ieee.{Float}
 use lib.ListN.{length}
 use borrow.Author.Tests.{le-leb}
 use Rattle.geometry.specs.declared.Point.{Point}
-use Rattle.placement.specs.declared.Limit.{Limit}
 use Rattle.placement.specs.declared.pair.Vertex.{Vertex}
 use Rattle.lists.specs.Lists.{sum, those, without, below}
 use Rattle.walk.specs.Faces.{Mesh}
 use Rattle.walk.specs.declared.Reason.{Reason}
-use Rattle.walk.specs.declared.Tested.{Tested}
 use Rattle.walk.specs.FoldTest.{fold_test}
 use Rattle.walk.specs.Walk.{StepAnswer, closed, ended, told_by, tried, chosen, answer, after, SameState}
 use Rattle.walk.specs.Pairs.{pair_of}
@@ -50,11 +48,12 @@ use Rattle.heapwalk.specs.Clauses.Trying.{pair_state, PairHolds, PairAnswer}
 use Rattle.heapwalk.proofs.MemoryLaws.{answer-before, pair-state-but, within-only}
 use Rattle.memory.specs.Layout.{folds_from, near_from, stamps_from}
 use Rattle.lists.proofs.CondLaws.{cond_same}
+use Rattle.std.specs.Prelude.{⊤, Result, Option}
 
 -- ---- a pair that is off the queue
 
 module _ {v f : ℕ} {w : List ℕ} {p q : List Float} {n live : ℕ} {bound : Float} {keep remove : ℕ} {place : Point}
-    (h : PairHolds v f w p q n live bound keep remove place) (limit : Limit) (reason : Reason) where
+    (h : PairHolds v f w p q n live bound keep remove place) (limit : Option Float) (reason : Reason) where
   -- closed, it is open no more: what is left is the queue's
   closed-state : SameState (heap_state v f w p q n)
       (after (rules_of limit bound) (pair_state v f w p q n (pair_of keep remove)) (closed (pair_of keep remove) reason))
@@ -83,15 +82,15 @@ module _ {v f : ℕ} {w : List ℕ} {p q : List Float} {n live : ℕ} {bound : F
       }
 
 -- what the test says decides which answer is given
-pub tried-by : (v f : ℕ) (w : List ℕ) (p q : List Float) (n keep remove : ℕ) (limit : Limit) (bound : Float) {w' : List ℕ} {p' q' : List Float} {r : Stepped}
-    {t : Tested} → fold_test (rules_of limit bound) (mesh_of v f w p q) (pair_of keep remove) ≡ t →
+pub tried-by : (v f : ℕ) (w : List ℕ) (p q : List Float) (n keep remove : ℕ) (limit : Option Float) (bound : Float) {w' : List ℕ} {p' q' : List Float} {r : Stepped}
+    {t : Result ⊤ Reason} → fold_test (rules_of limit bound) (mesh_of v f w p q) (pair_of keep remove) ≡ t →
     PairAnswer v f w p q n keep remove limit bound (told_by (pair_of keep remove) t) w' p' q' r →
     PairAnswer v f w p q n keep remove limit bound (tried (rules_of limit bound) (mesh_of v f w p q) (pair_of keep remove)) w' p' q' r
 unfolding tried
 tried-by v f w p q n keep remove limit bound is done = rw is done
 
 -- what is done after cells of near and far have changed is done to the state as it was
-pub tried-before : {v f : ℕ} {w w₁ : List ℕ} {p q : List Float} {n live lo hi : ℕ} {limit : Limit} {bound : Float} {keep remove : ℕ} {place : Point}
+pub tried-before : {v f : ℕ} {w w₁ : List ℕ} {p q : List Float} {n live lo hi : ℕ} {limit : Option Float} {bound : Float} {keep remove : ℕ} {place : Point}
     {w' : List ℕ} {p' q' : List Float} {r : Stepped} → PairHolds v f w p q n live bound keep remove place →
     But lo hi w w₁ → near_from v f ≤ lo → hi ≤ folds_from v f →
     PairAnswer v f w₁ p q n keep remove limit bound (tried (rules_of limit bound) (mesh_of v f w₁ p q) (pair_of keep remove)) w' p' q' r →
@@ -113,7 +112,7 @@ tried-before {v} {f} {w} {w₁} {p} {q} {n} {limit = limit} {bound = bound} {kee
 
 -- ---- the end
 
-module _ {v f : ℕ} {w : List ℕ} {p q : List Float} {n live : ℕ} {bound : Float} (h : HeapHolds v f w p q n live bound) (target : ℕ) (limit : Limit) where
+module _ {v f : ℕ} {w : List ℕ} {p q : List Float} {n live : ℕ} {bound : Float} (h : HeapHolds v f w p q n live bound) (target : ℕ) (limit : Option Float) where
   -- where the answer is the end, the state stays
   ended-done : {w' : List ℕ} {p' q' : List Float} {n' : ℕ} → answer (rules_of limit bound) target (heap_state v f w p q n) ≡ ended → HeapHolds v f w' p' q' n' live bound →
       StepWithin v f w p q w' p' q' → SameState (heap_state v f w' p' q' n') (heap_state v f w p q n) → ((y : ℕ) → y < v → stamp v f w' y ≡ stamp v f w y) →

@@ -9,7 +9,7 @@ use lib.Dec.{ltb}
 use lib.Ieee.{Float}
 use lib.ListN.{length, get_or}
 use borrow.Author.Tests.{lt-ltb}
-use Rattle.placement.specs.declared.Limit.{Limit}
+use Rattle.std.specs.Prelude.{Option}
 use Rattle.walk.specs.declared.Pair.{Pair}
 use Rattle.lists.specs.Lists.{sum, those, every, below}
 use Rattle.walk.specs.Pairs.{pair_of, eligible_pair}
@@ -21,6 +21,7 @@ use Rattle.lists.proofs.BelowLaws.{sum-none, count-below-most, sum-same-below, l
 use Rattle.lists.proofs.EveryLaws.{every-counted}
 use Rattle.memory.specs.Points.{mesh_of}
 use Rattle.meaning.specs.Arithmetic.{rules_of}
+use Rattle.ring.specs.declared.Neighbours.{Neighbours}
 use Rattle.ring.specs.Clauses.Listing.{is_around, AroundListed}
 use Rattle.openpairs.specs.Clauses.Edges.{opened_around}
 use Rattle.openpairs.specs.Clauses.Waiting.{fits}
@@ -39,12 +40,12 @@ use Rattle.memory.specs.Layout.{around_from, stamps_from}
 use Rattle.lists.proofs.CondLaws.{cond-and}
 use Rattle.memory.proofs.MeshLaws.{mesh-length, mesh-but}
 
-module _ {v f : ℕ} {w w₁ : List ℕ} {p q : List Float} {n : ℕ} {rising : Bool} {x count : ℕ} {bound : Float}
-    (held : Open v f w p q n bound) (x-in : x < v) (around : AroundListed v f w rising x w₁ count) where
+module _ {v f : ℕ} {w w₁ : List ℕ} {p q : List Float} {n : ℕ} {which : Neighbours} {x count : ℕ} {bound : Float}
+    (held : Open v f w p q n bound) (x-in : x < v) (around : AroundListed v f w which x w₁ count) where
   -- they are at most v, and each is below v
   pub around-few : count ≤ v
   around-few =
-      let test = is_around rising (live_faces f w) x in
+      let test = is_around which (live_faces f w) x in
       omega (
         arith,
         length-each (λ i. get_or w₁ (around_from v f + i) 0) count,
@@ -56,20 +57,20 @@ module _ {v f : ℕ} {w w₁ : List ℕ} {p q : List Float} {n : ℕ} {rising : 
 
   around-points : every (λ y. ltb y v) (around_in v f w₁ count) ≡ true
   around-points =
-      let test = is_around rising (live_faces f w) x in
+      let test = is_around which (live_faces f w) x in
       every-counted (λ y. ltb y v) (around_in v f w₁ count)
       (around.sums (λ y. cond (ltb y v) 0 1)
       ∙ sum-those (λ y. cond (ltb y v) 0 1) test (below v)
       ∙ sum-none _ v (λ y l. rw (lt-ltb y v l) (by-test (test y) (λ e. rw e) (λ e. rw e))))
 
   -- those of them that are eligible are the pairs that are to be opened
-  pub around-opened : (limit : Limit) (g : Pair → ℕ) →
-      sum g (pairs_with v f w₁ p q limit bound x (around_in v f w₁ count)) ≡ sum g (opened_around (rules_of limit bound) (mesh_of v f w p q) rising x)
+  pub around-opened : (limit : Option Float) (g : Pair → ℕ) →
+      sum g (pairs_with v f w₁ p q limit bound x (around_in v f w₁ count)) ≡ sum g (opened_around (rules_of limit bound) (mesh_of v f w p q) which x)
   unfolding mesh_of
   around-opened limit g =
       let rules = rules_of limit bound in
       let m = mesh_of v f w p q in
-      let test = is_around rising (live_faces f w) x in
+      let test = is_around which (live_faces f w) x in
       let weight : ℕ → ℕ = λ y. cond (fits v f w₁ p q limit bound x y) (g (pair_of x y)) 0 in
       let same = fits-stays v f around.but (omega arith) (floats-refl (3 * v) 0 p) (floats-refl (10 * v) 0 q) limit bound x in
       let fitting : (y : ℕ) → y < v → fits v f w₁ p q limit bound x y ≡ eligible_pair rules m (pair_of x y) =
@@ -81,9 +82,9 @@ module _ {v f : ℕ} {w w₁ : List ℕ} {p q : List Float} {n : ℕ} {rising : 
       ∙ sum-same-below _ (λ y. cond (test y && eligible_pair rules m (pair_of x y)) (g (pair_of x y)) 0) v
       (λ y l. sym (cond-and (test y) _ (g (pair_of x y))) ∙ ap (λ (b : Bool). cond (test y && b) (g (pair_of x y)) 0) (fitting y l))
       ∙ ap (λ (k : ℕ). sum (λ y. cond (test y && eligible_pair rules m (pair_of x y)) (g (pair_of x y)) 0) (below k)) (sym (mesh-length v f w p q))
-      ∙ sym (around-sum rules m rising x g)
+      ∙ sym (around-sum rules m which x g)
 
-  pub around-ready : (limit : Limit) → length (open_in v f w n) + length (opened_around (rules_of limit bound) (mesh_of v f w p q) rising x) ≤ 3 * f →
+  pub around-ready : (limit : Option Float) → length (open_in v f w n) + length (opened_around (rules_of limit bound) (mesh_of v f w p q) which x) ≤ 3 * f →
       Enterable v f w₁ p q n limit bound x (around_in v f w₁ count)
   around-ready limit enough = record {
     «open» = held-past around.but (omega arith) held;
@@ -95,23 +96,23 @@ module _ {v f : ℕ} {w w₁ : List ℕ} {p q : List Float} {n : ℕ} {rising : 
       ap length (open-past around.but (omega arith) held),
       around-opened limit (λ r. 1),
       sum-length (pairs_with v f w₁ p q limit bound x (around_in v f w₁ count)),
-      sum-length (opened_around (rules_of limit bound) (mesh_of v f w p q) rising x),
+      sum-length (opened_around (rules_of limit bound) (mesh_of v f w p q) which x),
     );
   }
 
   -- entries put in once the points are listed are put in from where they were not
-  around-entries : (limit : Limit) {after : List Entry} →
+  around-entries : (limit : Option Float) {after : List Entry} →
       Requeued (stamps_of v f w₁) (entries_in v f w₁ p q n) (entries_for v f w₁ p q limit bound (pairs_with v f w₁ p q limit bound x (around_in v f w₁ count))) after →
-      Requeued (stamps_of v f w) (entries_in v f w p q n) (entries_for v f w p q limit bound (opened_around (rules_of limit bound) (mesh_of v f w p q) rising x)) after
+      Requeued (stamps_of v f w) (entries_in v f w p q n) (entries_for v f w p q limit bound (opened_around (rules_of limit bound) (mesh_of v f w p q) which x)) after
   around-entries limit {after} put =
       let same-stamps = stamps-same v f w w₁ (λ y l. around.but.under (stamps_from v f + y) (omega arith)) in
       let same_mesh = mesh-but v f p q around.but (omega arith) in
       requeued-as (bag-map (record { sums = around-opened limit }) (entry_for limit bound (mesh_of v f w p q) (stamps_of v f w)))
       (rw (same-stamps, same_mesh, entries-past around.but (omega arith) held) at put)
 
-  pub around-entered : (limit : Limit) {w' : List ℕ} {p' q' : List Float} {n' : ℕ} →
+  pub around-entered : (limit : Option Float) {w' : List ℕ} {p' q' : List Float} {n' : ℕ} →
       EnteredBeside v f w₁ p q n limit bound (pairs_with v f w₁ p q limit bound x (around_in v f w₁ count)) w' p' q' n' →
-      Entered v f w p q n limit bound (opened_around (rules_of limit bound) (mesh_of v f w p q) rising x) w' p' q' n'
+      Entered v f w p q n limit bound (opened_around (rules_of limit bound) (mesh_of v f w p q) which x) w' p' q' n'
   around-entered limit done =
       let put = done.entered.enqueued in
       record {

@@ -7,8 +7,8 @@ use mathlib.Core.Path.{◌≡◌, refl, sym, ap, subst, ◌∙◌}
 use mathlib.Core.List.{List, [], ◌∷◌, ◌++◌, append_assoc, append-nil}
 use lib.Ieee.{Float}
 use lib.ListN.{length, length-append}
+use Rattle.std.specs.Prelude.{Option}
 use Rattle.lists.specs.Lists.{sum, below}
-use Rattle.placement.specs.declared.Limit.{Limit}
 use Rattle.walk.specs.declared.Pair.{Pair}
 use Rattle.walk.specs.declared.Closings.{Closings}
 use Rattle.walk.specs.declared.Reason.{Reason}
@@ -42,7 +42,7 @@ told_more {X} tells (first ∷ steps) step =
 one_more : (n k : ℕ) → n + 1 + k ≡ n + suc k
 one_more n k = omega arith
 
-module _ (v f target : ℕ) (limit : Limit) (bound : Float) where
+module _ (v f target : ℕ) (limit : Option Float) (bound : Float) where
   -- a link more, at the end
   pub chain_more : (n : ℕ) (m : Moment) (steps : List Step) (m' : Moment) (step : Step) (m'' : Moment) →
       Chain v f target limit bound n m steps m' → Link v f target limit bound (n + length (folds_told steps)) m' step m'' →
@@ -112,7 +112,7 @@ module _ (v f target : ℕ) (limit : Limit) (bound : Float) where
   chaining-start m held =
       record { steps = []; walking = walking_start (by_heap v f bound) target limit bound m held; chain = refl; listed = refl; counts = refl }
 
-module _ {v f target : ℕ} {limit : Limit} {bound : Float} {m₀ m : Moment} {n : ℕ} {closed : Closings}
+module _ {v f target : ℕ} {limit : Option Float} {bound : Float} {m₀ m : Moment} {n : ℕ} {closed : Closings}
     (chaining : Chaining v f target limit bound m₀ m n closed) where
   -- as many folds were told as are written down
   told-length : n ≡ length (folds_told chaining.steps)

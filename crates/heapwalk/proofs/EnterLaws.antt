@@ -10,8 +10,8 @@ use lib.Dec.{ltb}
 use lib.Ieee.{Float}
 use lib.ListN.{length, get_or, length-map, length-append}
 use borrow.Author.Tests.{ltb-true, lt-ltb}
+use Rattle.std.specs.Prelude.{Option}
 use Rattle.geometry.specs.declared.Point.{Point}
-use Rattle.placement.specs.declared.Limit.{Limit}
 use Rattle.placement.specs.declared.pair.Vertex.{Vertex}
 use Rattle.placement.specs.Pairs.{pair_place, pair_cost}
 use Rattle.walk.specs.Faces.{Mesh}
@@ -44,7 +44,7 @@ use Rattle.memory.specs.Layout.{around_from}
 
 -- ---- one change after another
 
-pub entered-none : {v f : ℕ} {w : List ℕ} {p q : List Float} {n : ℕ} {limit : Limit} {bound : Float} → Open v f w p q n bound →
+pub entered-none : {v f : ℕ} {w : List ℕ} {p q : List Float} {n : ℕ} {limit : Option Float} {bound : Float} → Open v f w p q n bound →
     Entered v f w p q n limit bound [] w p q n
 unfolding sum
 entered-none {v} {f} {w} {p} {q} {n} held = record {
@@ -60,7 +60,7 @@ entered-none {v} {f} {w} {p} {q} {n} held = record {
 }
 
 -- the entries of other pairs are those that they would have got before
-entered-entries : {v f : ℕ} {w w' : List ℕ} {p p' q q' : List Float} {n n' : ℕ} {limit : Limit} {bound : Float} {more : List Pair} →
+entered-entries : {v f : ℕ} {w w' : List ℕ} {p p' q q' : List Float} {n n' : ℕ} {limit : Option Float} {bound : Float} {more : List Pair} →
     Entered v f w p q n limit bound more w' p' q' n' → (after : List Entry) (xs : List Pair) →
     Requeued (stamps_of v f w') (entries_in v f w' p' q' n') (entries_for v f w' p' q' limit bound xs) after →
     Requeued (stamps_of v f w) (entries_in v f w' p' q' n') (entries_for v f w p q limit bound xs) after
@@ -71,7 +71,7 @@ entered-entries {v} {f} {w} {w'} {p} {p'} {q} {q'} {n' = n'} {limit = limit} {bo
     (subst (λ (m : Mesh Vertex). Requeued (stamps_of v f w') (entries_in v f w' p' q' n') (map (entry_for limit bound m (stamps_of v f w')) xs) after)
     (mesh-stays v f put.but (omega arith) put.points_but put.quadrics_but) two)
 
-pub entered-then : {v f : ℕ} {w w' w'' : List ℕ} {p p' p'' q q' q'' : List Float} {n n' n'' : ℕ} {limit : Limit} {bound : Float} {more more' : List Pair} →
+pub entered-then : {v f : ℕ} {w w' w'' : List ℕ} {p p' p'' q q' q'' : List Float} {n n' n'' : ℕ} {limit : Option Float} {bound : Float} {more more' : List Pair} →
     Entered v f w p q n limit bound more w' p' q' n' → Entered v f w' p' q' n' limit bound more' w'' p'' q'' n'' →
     Entered v f w p q n limit bound (more ++ more') w'' p'' q'' n''
 entered-then {v} {f} {w} {w'' = w''} {p = p} {p'' = p''} {q = q} {q'' = q''} {n = n} {n'' = n''} {limit = limit} {bound = bound} {more = more} {more' = more'} one two =
@@ -93,7 +93,7 @@ entered-then {v} {f} {w} {w'' = w''} {p = p} {p'' = p''} {q = q} {q'' = q''} {n 
     }
 
 -- the pairs may be listed in another order
-pub entered-as : {v f : ℕ} {w w' : List ℕ} {p p' q q' : List Float} {n n' : ℕ} {limit : Limit} {bound : Float} {more more' : List Pair} →
+pub entered-as : {v f : ℕ} {w w' : List ℕ} {p p' q q' : List Float} {n n' : ℕ} {limit : Option Float} {bound : Float} {more more' : List Pair} →
     ((g : Pair → ℕ) → sum g more ≡ sum g more') → Entered v f w p q n limit bound more w' p' q' n' → Entered v f w p q n limit bound more' w' p' q' n'
 entered-as {v} {f} {w} {p = p} {q = q} {n = n} {limit = limit} {bound = bound} same one =
     let done = one.enqueued in
@@ -110,14 +110,14 @@ entered-as {v} {f} {w} {p = p} {q = q} {n = n} {limit = limit} {bound = bound} s
     }
 
 -- how many are open
-pub entered-length : {v f : ℕ} {w w' : List ℕ} {p p' q q' : List Float} {n n' : ℕ} {limit : Limit} {bound : Float} {more : List Pair} →
+pub entered-length : {v f : ℕ} {w w' : List ℕ} {p p' q q' : List Float} {n n' : ℕ} {limit : Option Float} {bound : Float} {more : List Pair} →
     Entered v f w p q n limit bound more w' p' q' n' → length (open_in v f w' n') ≡ length (open_in v f w n) + length more
 entered-length {v} {f} {w} {w'} {n = n} {n' = n'} {more = more} one =
     omega (arith, one.enqueued.sums (λ r. 1), sum-length (open_in v f w' n'), sum-length (open_in v f w n), sum-length more)
 
 -- ---- eligible pairs of x with the points of a list
 
-module _ (v f : ℕ) (w : List ℕ) (p q : List Float) (limit : Limit) (bound : Float) (x : ℕ) where
+module _ (v f : ℕ) (w : List ℕ) (p q : List Float) (limit : Option Float) (bound : Float) (x : ℕ) where
   -- with one point
   pub with-one : (y : ℕ) (b : Bool) → fits v f w p q limit bound x y ≡ b → pairs_with v f w p q limit bound x (y ∷ []) ≡ cond b (pair_of x y ∷ []) []
   unfolding those
@@ -157,7 +157,7 @@ every-none test = refl
 
 -- ---- one pair
 
-module _ {v f : ℕ} {w : List ℕ} {p q : List Float} {n : ℕ} {limit : Limit} {bound : Float} {x y : ℕ}
+module _ {v f : ℕ} {w : List ℕ} {p q : List Float} {n : ℕ} {limit : Option Float} {bound : Float} {x y : ℕ}
     (ready : Enterable v f w p q n limit bound x (y ∷ [])) where
   pub one-point : y < v
   one-point = ltb-true y v (every-head (λ y. ltb y v) y [] ready.points)
@@ -200,7 +200,7 @@ module _ {v f : ℕ} {w : List ℕ} {p q : List Float} {n : ℕ} {limit : Limit}
 
 -- ---- the listed points, one after another
 
-module _ {v f : ℕ} {w₀ : List ℕ} {p₀ q₀ : List Float} {n₀ : ℕ} {limit : Limit} {bound : Float} {x count : ℕ}
+module _ {v f : ℕ} {w₀ : List ℕ} {p₀ q₀ : List Float} {n₀ : ℕ} {limit : Option Float} {bound : Float} {x count : ℕ}
     (ready : Enterable v f w₀ p₀ q₀ n₀ limit bound x (around_in v f w₀ count)) (few : count ≤ v) where
   pub listed-none : EnteredBeside v f w₀ p₀ q₀ n₀ limit bound (pairs_with v f w₀ p₀ q₀ limit bound x (around_in v f w₀ 0)) w₀ p₀ q₀ n₀
   unfolding below those

@@ -7,8 +7,8 @@ use mathlib.Core.Bool.{Bool, true, false, not, ◌&&◌}
 use lib.Ieee.{Float}
 use lib.ListN.{get_or}
 use borrow.Author.Tests.{eq-eqb}
+use Rattle.std.specs.Prelude.{Option}
 use Rattle.geometry.specs.declared.Point.{Point}
-use Rattle.placement.specs.declared.Limit.{Limit}
 use Rattle.placement.specs.declared.pair.Vertex.{Vertex}
 use Rattle.placement.specs.Pairs.{pair_place, pair_cost}
 use Rattle.lists.specs.Lists.{every}
@@ -26,7 +26,7 @@ use Rattle.memory.proofs.EntryLaws.{entry-path}
 use Rattle.queue.proofs.PresentLaws.{stamp-of}
 use Rattle.heapwalk.specs.Entries.{entry_for}
 
-module _ (limit : Limit) (bound : Float) (m : Mesh Vertex) (stamps : List ℕ) where
+module _ (limit : Option Float) (bound : Float) (m : Mesh Vertex) (stamps : List ℕ) where
   -- it has the present stamps
   entry-current : (x : Pair) → is_old stamps (entry_for limit bound m stamps x) ≡ false
   unfolding entry_for
@@ -42,7 +42,7 @@ module _ (limit : Limit) (bound : Float) (m : Mesh Vertex) (stamps : List ℕ) w
       ∙ every-all (λ x. not (is_old stamps (entry_for limit bound m stamps x))) (λ x. ap not (entry-current x)) xs
 
 -- the entry of two points in memory, with their cost and place
-module _ (v f : ℕ) (w : List ℕ) (p q : List Float) (limit : Limit) (bound : Float) {keep remove : ℕ} (keep-in : keep < v) (remove-in : remove < v)
+module _ (v f : ℕ) (w : List ℕ) (p q : List Float) (limit : Option Float) (bound : Float) {keep remove : ℕ} (keep-in : keep < v) (remove-in : remove < v)
     {cost : Float} {place : Point} (cost-is : cost ≡ pair_cost bound (vertex_at v f w p q keep) (vertex_at v f w p q remove))
     (place_is : place ≡ pair_place bound (vertex_at v f w p q keep) (vertex_at v f w p q remove)) where
   pub entry-is : ◌≡◌ {A = Entry}

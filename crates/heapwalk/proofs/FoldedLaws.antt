@@ -11,8 +11,8 @@ use lib.Ieee.{Float, nan}
 use lib.ListN.{length, get_or, length-append}
 use lib.Seq.{get_or-set_other}
 use borrow.Author.Tests.{eqb-false}
+use Rattle.std.specs.Prelude.{Option}
 use Rattle.geometry.specs.declared.Point.{Point}
-use Rattle.placement.specs.declared.Limit.{Limit}
 use Rattle.placement.specs.declared.pair.Vertex.{Vertex}
 use Rattle.lists.specs.Lists.{sum, those}
 use Rattle.walk.specs.Faces.{Mesh, merged_of}
@@ -31,6 +31,7 @@ use Rattle.mesh.proofs.AroundLaws.{live-faces-but, live-few}
 use Rattle.memory.specs.Points.{vertex_at, mesh_of}
 use Rattle.meaning.specs.Arithmetic.{rules_of}
 use Rattle.memory.proofs.MeshLaws.{mesh-point, mesh-but}
+use Rattle.ring.specs.declared.Neighbours.TheVariants.{Every}
 use Rattle.openpairs.specs.Clauses.Edges.{opened_around}
 use Rattle.folding.specs.Clauses.Folds.{MeshFolded}
 use Rattle.meaning.specs.Input.{point_at}
@@ -54,7 +55,7 @@ use Rattle.heapwalk.proofs.StampLaws.{bumped, first-room, first-stamp, both-but,
 use Rattle.memory.specs.Layout.{costs_to, entries_from, keeps_from, places_to, stamps_from}
 use Rattle.folding.proofs.TriedLaws.{folded-live}
 
-module _ {v f : ℕ} {w : List ℕ} {p q : List Float} {n live : ℕ} {limit : Limit} {bound : Float} {keep remove : ℕ} {place : Point}
+module _ {v f : ℕ} {w : List ℕ} {p q : List Float} {n live : ℕ} {limit : Option Float} {bound : Float} {keep remove : ℕ} {place : Point}
     {w₁ : List ℕ} {p' q' : List Float} {gone : ℕ}
     (h : PairHolds v f w p q n live bound keep remove place) (fold : MeshFolded v f limit bound w p q keep remove w₁ p' q' gone) where
   -- the faces that are gone and those that are left are the faces before
@@ -142,7 +143,7 @@ module _ {v f : ℕ} {w : List ℕ} {p q : List Float} {n live : ℕ} {limit : L
         }
 
     -- there is room for the pairs that the fold opens
-    pub room-left : length (open_in v f w₃ n) + length (opened_around (rules_of limit bound) (mesh_of v f w₃ p' q') false keep) ≤ 3 * f
+    pub room-left : length (open_in v f w₃ n) + length (opened_around (rules_of limit bound) (mesh_of v f w₃ p' q') Every keep) ≤ 3 * f
     unfolding pair_state after mesh_of
     room-left =
         let x = pair_of keep remove in
@@ -158,7 +159,7 @@ module _ {v f : ℕ} {w : List ℕ} {p q : List Float} {n live : ℕ} {limit : L
         )
 
     module _ {w₄ : List ℕ} {p₄ q₄ : List Float} {more : ℕ}
-        (enter : Entered v f w₃ p' q' n limit bound (opened_around (rules_of limit bound) (mesh_of v f w₃ p' q') false keep) w₄ p₄ q₄ more) where
+        (enter : Entered v f w₃ p' q' n limit bound (opened_around (rules_of limit bound) (mesh_of v f w₃ p' q') Every keep) w₄ p₄ q₄ more) where
       -- the state after the fold is the plain walk's
       folded-state : SameState (heap_state v f w₄ p₄ q₄ more)
           (after (rules_of limit bound) (pair_state v f w p q n (pair_of keep remove)) (folded (pair_of keep remove)))

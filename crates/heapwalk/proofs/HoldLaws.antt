@@ -6,7 +6,7 @@ use mathlib.Core.Path.{◌≡◌, refl, sym, ap, ◌∙◌}
 use mathlib.Core.List.{List}
 use lib.Ieee.{Float}
 use lib.ListN.{length}
-use Rattle.placement.specs.declared.Limit.{Limit}
+use Rattle.std.specs.Prelude.{Option}
 use Rattle.walk.specs.Walk.{started, SameState}
 use Rattle.memory.specs.Memory.{live_faces}
 use Rattle.lists.specs.Frames.{But}
@@ -66,7 +66,7 @@ by_heap v f bound = record {
 }
 
 -- its step is taken as the plain walk's
-pub heap-step : {v f : ℕ} {w : List ℕ} {p q : List Float} {n live target : ℕ} {limit : Limit} {bound : Float} {w' : List ℕ} {p' q' : List Float} {r : Stepped} →
+pub heap-step : {v f : ℕ} {w : List ℕ} {p q : List Float} {n live target : ℕ} {limit : Option Float} {bound : Float} {w' : List ℕ} {p' q' : List Float} {r : Stepped} →
     HeapStepDone v f w p q n target limit bound w' p' q' r →
     Taken (by_heap v f bound) target limit bound (moment w p q n live) (moment w' p' q' r.«open» r.live) r.step
 heap-step done =
@@ -75,7 +75,7 @@ heap-step done =
 
 -- ---- from the start
 
-module _ {v f : ℕ} {w w₁ : List ℕ} {p q p₁ q₁ : List Float} {n : ℕ} (limit : Limit) (bound : Float) (tidy : Tidy v f w)
+module _ {v f : ℕ} {w w₁ : List ℕ} {p q p₁ q₁ : List Float} {n : ℕ} (limit : Option Float) (bound : Float) (tidy : Tidy v f w)
     (whole : length (live_faces f w) ≡ f) (start : Started v f w p q limit bound (started (rules_of limit bound) (mesh_of v f w p q)).«open» w₁ p₁ q₁ n) where
   start-state : SameState (heap_state v f w₁ p₁ q₁ n) (start_in v f w p q limit bound)
   unfolding heap_state started

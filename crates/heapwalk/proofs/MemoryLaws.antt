@@ -7,8 +7,8 @@ use mathlib.Core.Logic.{◌≢◌}
 use mathlib.Core.List.{List}
 use lib.Ieee.{Float}
 use lib.ListN.{length}
+use Rattle.std.specs.Prelude.{Option}
 use Rattle.geometry.specs.declared.Point.{Point}
-use Rattle.placement.specs.declared.Limit.{Limit}
 use Rattle.placement.specs.declared.pair.Vertex.{Vertex}
 use Rattle.placement.specs.Pairs.{pair_place}
 use Rattle.walk.specs.declared.Pair.{Pair}
@@ -77,7 +77,7 @@ within-only only = record {
 
 -- ---- an answer that is given after a change that leaves the state
 
-pub answer-before : {v f : ℕ} {s t : State Vertex} {w w₁ : List ℕ} {p q p₁ q₁ : List Float} {limit : Limit} {bound : Float} {a b : StepAnswer}
+pub answer-before : {v f : ℕ} {s t : State Vertex} {w w₁ : List ℕ} {p q p₁ q₁ : List Float} {limit : Option Float} {bound : Float} {a b : StepAnswer}
     {w' : List ℕ} {p' q' : List Float} {r : Stepped} → StepWithin v f w p q w₁ p₁ q₁ → SameState t s → b ≡ a →
     HeapAnswer v f t w₁ p₁ q₁ limit bound b w' p' q' r → HeapAnswer v f s w p q limit bound a w' p' q' r
 answer-before {v} {f} {s} {t} {limit = limit} {bound = bound} {a = a} {b = b} within same e done = record {

@@ -5,7 +5,7 @@ use native.Mathlib.Omega.{arith}
 use mathlib.Core.Path.{◌≡◌, refl, ap₂}
 use mathlib.Core.List.{List}
 use lib.Ieee.{Float}
-use Rattle.placement.specs.declared.Limit.{Limit}
+use Rattle.std.specs.Prelude.{Option}
 use Rattle.placement.specs.Pairs.{eligible}
 use Rattle.lists.specs.Frames.{But, FloatsBut}
 use Rattle.lists.proofs.BelowLaws.{map-same-below}
@@ -33,7 +33,7 @@ module _ (v f : ℕ) {lo hi hi-p hi-q : ℕ} {w w' : List ℕ} {p p' q q' : List
         quadric-same q' q x x (λ k m. quadrics_but.under (10 * x + k) (omega arith)),
       )
 
-  pub fits-stays : (limit : Limit) (bound : Float) (x y : ℕ) → x < v → y < v →
+  pub fits-stays : (limit : Option Float) (bound : Float) (x y : ℕ) → x < v → y < v →
       fits v f w' p' q' limit bound x y ≡ fits v f w p q limit bound x y
   unfolding fits
   fits-stays limit bound x y x-in y-in = ap₂ (eligible limit bound) (vertex-stays x x-in) (vertex-stays y y-in)

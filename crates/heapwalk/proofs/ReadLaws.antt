@@ -5,14 +5,11 @@ use native.Mathlib.Omega.{arith}
 use mathlib.Core.Path.{◌≡◌, refl, sym, ap, ◌∙◌}
 use mathlib.Core.Logic.{◌≢◌}
 use mathlib.Core.List.{List}
-use lib.Dec.{ltb}
 use lib.ListN.{length, get_or}
 use lib.Ieee.{Float}
-use borrow.Author.Tests.{ltb-true, ltb-false}
+use Rattle.std.specs.Prelude.{Option}
 use Rattle.geometry.specs.declared.Quadric.{Quadric}
-use Rattle.placement.specs.declared.Limit.{Limit}
 use Rattle.walk.specs.declared.Pair.{Pair}
-use Rattle.lists.proofs.TestLaws.{by-test}
 use Rattle.memory.specs.Points.{quadric_at, with_quadric}
 use Rattle.memory.specs.Layout.{around_from}
 use Rattle.memory.proofs.PointLaws.{Stored, quadric-same, quadric-stored}
@@ -22,10 +19,7 @@ use Rattle.heapwalk.specs.Clauses.Reading.{part_of, PointsListed, PartRead, Read
 
 -- a part is no longer than eight, nor than what is left
 part_small : (left : ℕ) → (part_of left ≤ 8) × (part_of left ≤ left) × ((m : ℕ) → m < 8 → m < left → m < part_of left)
-part_small left =
-    by-test (ltb left 8)
-    (λ e. let l = ltb-true left 8 e in rw e (omega arith, omega arith, λ m a b. b))
-    (λ e. let l = ltb-false left 8 e in rw e (omega arith, omega arith, λ m a b. a))
+part_small left = (omega arith, omega arith, λ m a b. omega arith)
 
 -- ---- a part, quadric by quadric
 
@@ -69,7 +63,7 @@ pub part-inside : {count i : ℕ} → i < count → i + part_of (count - i) ≤ 
 part-inside {count} {i} inside = omega (arith, (part_small (count - i)).1)
 
 -- a point has been opened, and the next one's quadric is as it was
-pub read_next : {v f : ℕ} {w w' : List ℕ} {p p' q q' : List Float} {n n' : ℕ} {limit : Limit} {bound : Float} {more : List Pair} {count i : ℕ} {near : List Float} →
+pub read_next : {v f : ℕ} {w w' : List ℕ} {p p' q q' : List Float} {n n' : ℕ} {limit : Option Float} {bound : Float} {more : List Pair} {count i : ℕ} {near : List Float} →
     count ≤ v → PointsListed v f w count → ReadAt v f w q count i near → EnteredBeside v f w p q n limit bound more w' p' q' n' → ReadBefore v f w' q' count (i + 1) near
 read_next {v} {f} {w} {w'} {q = q} {q'} {count = count} {i} {near} few listed at-hand beside = record {
   long = at-hand.long;

@@ -7,7 +7,7 @@ use mathlib.Core.Path.{◌≡◌, ap}
 use mathlib.Core.List.{List, ◌∷◌, ◌++◌}
 use lib.Ieee.{Float}
 use lib.ListN.{length, length-append}
-use Rattle.placement.specs.declared.Limit.{Limit}
+use Rattle.std.specs.Prelude.{Option}
 use Rattle.lists.specs.Lists.{SameBag}
 use Rattle.lists.proofs.BagLaws.{bag-length}
 use Rattle.walk.specs.declared.Pair.{Pair}
@@ -18,7 +18,7 @@ use Rattle.memory.specs.Points.{mesh_of}
 use Rattle.memory.specs.declared.entries.Entry.{Entry}
 use Rattle.mesh.specs.Clauses.Chains.{Tidy}
 use Rattle.openpairs.proofs.StartLaws.{started-few}
-use Rattle.folding.specs.declared.Tried.TheVariants.{Folded as Made}
+use Rattle.std.specs.Prelude.{Ok}
 use Rattle.folding.specs.Clauses.Folds.{FoldTried}
 use Rattle.walk.proofs.StepLaws.{open-bound}
 use Rattle.queue.specs.State.{open_in, heap_state}
@@ -44,7 +44,7 @@ pub record RoomToPush (v f : ℕ) (w : List ℕ) (p q : List Float) (n : ℕ) : 
   pub room_thrown : (w' : List ℕ) (p' q' : List Float) (n' : ℕ) → ThrownOut v f w p q n w' p' q' n' → n' < 3 * f
 
 -- where there is room for all pairs of a list, there is room while one of them is to be put in
-room-before : {v f : ℕ} {w w' : List ℕ} {p q p' q' : List Float} {n n' : ℕ} {limit : Limit} {bound : Float} {done : List Pair} (all : List Pair) (next : Pair) (rest : List Pair) →
+room-before : {v f : ℕ} {w w' : List ℕ} {p q p' q' : List Float} {n n' : ℕ} {limit : Option Float} {bound : Float} {done : List Pair} (all : List Pair) (next : Pair) (rest : List Pair) →
     length (open_in v f w n) + length all ≤ 3 * f → Entered v f w p q n limit bound done w' p' q' n' → SameBag all (done ++ (next ∷ rest)) → RoomToPush v f w' p' q' n'
 room-before {v} {f} {w' = w'} {n' = n'} {done = done} all next rest enough entered same =
     let fewer : length (open_in v f w' n') < 3 * f =
@@ -52,7 +52,7 @@ room-before {v} {f} {w' = w'} {n' = n'} {done = done} all next rest enough enter
     record { fewer_current = fewer; room_thrown = λ w'' p'' q'' n'' out. omega (arith, thrown-counted out (λ i l. (entered.«open».kept i l).named)) }
 
 -- at the start, after some of its pairs were put into the empty queue
-pub three-a-face-suffice-at-the-start : {v f : ℕ} {w w₀ w' : List ℕ} {p q p' q' : List Float} {n' : ℕ} {limit : Limit} {bound : Float} {done : List Pair}
+pub three-a-face-suffice-at-the-start : {v f : ℕ} {w w₀ w' : List ℕ} {p q p' q' : List Float} {n' : ℕ} {limit : Option Float} {bound : Float} {done : List Pair}
     (next : Pair) (rest : List Pair) → Tidy v f w → Emptied v f w p q w₀ → Entered v f w₀ p q 0 limit bound done w' p' q' n' →
     SameBag (started (rules_of limit bound) (mesh_of v f w p q)).«open» (done ++ (next ∷ rest)) → RoomToPush v f w' p' q' n'
 three-a-face-suffice-at-the-start {v} {f} {w} {w₀} {p = p} {q} {limit = limit} {bound} next rest tidy emptied entered same =
@@ -60,9 +60,9 @@ three-a-face-suffice-at-the-start {v} {f} {w} {w₀} {p = p} {q} {limit = limit}
     room-before all next rest (omega (arith, ap length (open_none v f w₀), started-few tidy p q (rules_of limit bound))) entered same
 
 -- after a fold of the pair that was taken off, once both stamps are raised and some of the pairs that it opens were put in
-pub three-a-face-suffice : {v f : ℕ} {w w₁ w₂ w₃ w₄ w' : List ℕ} {p q p₁ q₁ p₂ q₂ p' q' : List Float} {n n' live left gone : ℕ} {top : Entry} {limit : Limit} {bound : Float} {done : List Pair}
+pub three-a-face-suffice : {v f : ℕ} {w w₁ w₂ w₃ w₄ w' : List ℕ} {p q p₁ q₁ p₂ q₂ p' q' : List Float} {n n' live left gone : ℕ} {top : Entry} {limit : Option Float} {bound : Float} {done : List Pair}
     (next : Pair) (rest : List Pair) → HeapHolds v f w p q n live bound → TakenOff v f w p q n w₁ p₁ q₁ top left →
-    FoldTried v f limit bound w₁ p₁ q₁ top.pair.keep top.pair.remove w₂ p₂ q₂ (Made gone) →
+    FoldTried v f limit bound w₁ p₁ q₁ top.pair.keep top.pair.remove w₂ p₂ q₂ (Ok gone) →
     w₃ ≡ bumped v f w₂ top.pair.keep → w₄ ≡ bumped v f w₃ top.pair.remove →
     Entered v f w₄ p₂ q₂ left limit bound done w' p' q' n' →
     SameBag (opened (rules_of limit bound) (mesh_of v f w₄ p₂ q₂) top.pair.keep) (done ++ (next ∷ rest)) → RoomToPush v f w' p' q' n'

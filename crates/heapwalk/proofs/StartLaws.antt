@@ -8,7 +8,7 @@ use mathlib.Core.Path.{◌≡◌, refl, sym, ap, ap₂, ◌∙◌}
 use mathlib.Core.List.{List, [], flat_map}
 use lib.Ieee.{Float}
 use lib.ListN.{length}
-use Rattle.placement.specs.declared.Limit.{Limit}
+use Rattle.std.specs.Prelude.{Option}
 use Rattle.placement.specs.declared.pair.Vertex.{Vertex}
 use Rattle.walk.specs.declared.Pair.{Pair}
 use Rattle.lists.specs.Lists.{sum, those, below}
@@ -48,11 +48,11 @@ unfolding entries_in below
 entries_none v f w p q = refl
 
 -- the pairs that the start opens from the points below x on
-abbrev pub rising_below : (v f : ℕ) (w : List ℕ) (p q : List Float) (limit : Limit) (bound : Float) → ℕ → List Pair
+abbrev pub rising_below : (v f : ℕ) (w : List ℕ) (p q : List Float) (limit : Option Float) (bound : Float) → ℕ → List Pair
 rising_below v f w p q limit bound x = flat_map (rising_from (rules_of limit bound) (mesh_of v f w p q)) (below x)
 
 module _ {v f : ℕ} {w w₀ : List ℕ} {p q : List Float} (tidy : Tidy v f w) (emptied : Emptied v f w p q w₀)
-    (limit : Limit) (bound : Float) where
+    (limit : Option Float) (bound : Float) where
   -- an empty queue knows all that it should
   emptied-open : Open v f w₀ p q 0 bound
   emptied-open = record {

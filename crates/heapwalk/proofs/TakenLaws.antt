@@ -10,15 +10,14 @@ use lib.Dec.{leb, ltb}
 use lib.Ieee.{Float}
 use lib.ListN.{length}
 use borrow.Author.Tests.{le-leb, lt-leb, leb-true, lt-ltb, ltb-true}
-use Rattle.placement.specs.declared.Limit.{Limit}
 use Rattle.placement.specs.declared.pair.Vertex.{Vertex}
 use Rattle.placement.specs.Pairs.{pair_place}
+use Rattle.walk.specs.declared.Reason.{Reason}
 use Rattle.walk.specs.declared.Pair.{Pair}
 use Rattle.lists.specs.Lists.{sum, count, below}
 use Rattle.walk.specs.Pairs.{same_pair, order}
 use Rattle.walk.specs.Faces.{Rules, Mesh}
-use Rattle.walk.specs.declared.Tested.{Tested}
-use Rattle.walk.specs.declared.Tested.TheVariants.{Allowed, Not}
+use Rattle.std.specs.Prelude.{⊤, Result, Ok, Err}
 use Rattle.walk.specs.FoldTest.{fold_test}
 use Rattle.walk.specs.Walk.{StepAnswer, told_by, tried, answer, SameState}
 use Rattle.lists.proofs.BelowLaws.{all-below}
@@ -39,8 +38,7 @@ use Rattle.meaning.specs.Arithmetic.{rules_of}
 use Rattle.openpairs.specs.Clauses.Ranks.{rank}
 use Rattle.queue.specs.State.{is_current, open_in, heap_state}
 use Rattle.queue.specs.Stored.{stamps_of, entries_in, is_old, entry_rank, Requeued}
-use Rattle.queue.specs.declared.Taken.{Taken}
-use Rattle.queue.specs.declared.Taken.TheVariants.{Found, Empty}
+use Rattle.std.specs.Prelude.{Option, Some, None}
 use Rattle.queue.specs.Clauses.Queued.{QueueNamed, is_present, EntryKept}
 use Rattle.queue.specs.Clauses.Changes.{TakenOff, NoneLeft, TookCurrent}
 use Rattle.queue.proofs.PresentLaws.{present-old, entries-each, kept-were}
@@ -54,11 +52,11 @@ use Rattle.heapwalk.proofs.QueueFrames.{vertex-stays, mesh-stays}
 use Rattle.heapwalk.proofs.MemoryLaws.{answer-before, within-only}
 
 -- what was taken off, by the answer
-module _ {v f : ℕ} {w : List ℕ} {p q : List Float} {n : ℕ} (w' : List ℕ) (p' q' : List Float) {r : Taken} where
-  pub took-entry : {top : Entry} {left : ℕ} → r ≡ Found top left → TookCurrent v f w p q n w' p' q' r → TakenOff v f w p q n w' p' q' top left
+module _ {v f : ℕ} {w : List ℕ} {p q : List Float} {n : ℕ} (w' : List ℕ) (p' q' : List Float) {r : Option (Entry × ℕ)} where
+  pub took-entry : {top : Entry} {left : ℕ} → r ≡ Some (top, left) → TookCurrent v f w p q n w' p' q' r → TakenOff v f w p q n w' p' q' top left
   took-entry e took = rw e at took
 
-  pub took-none : r ≡ Empty → TookCurrent v f w p q n w' p' q' r → NoneLeft v f w p q n w' p' q'
+  pub took-none : r ≡ None → TookCurrent v f w p q n w' p' q' r → NoneLeft v f w p q n w' p' q'
   took-none e took = rw e at took
 
 -- a pair that is tried is folded or closed, by the fold test
@@ -67,18 +65,18 @@ unfolding tried
 tried-is rules m x = refl
 
 -- either way the step has taken that pair off the queue
-queue-step : (v f : ℕ) (w : List ℕ) (p q : List Float) (n target : ℕ) (limit : Limit) (bound : Float) (w' : List ℕ) (p' q' : List Float) (n' : ℕ) (x : Pair)
-    (t : Tested) {a : StepAnswer} → a ≡ told_by x t → PairTaken v f w p q n target limit bound x a w' p' q' n' →
+queue-step : (v f : ℕ) (w : List ℕ) (p q : List Float) (n target : ℕ) (limit : Option Float) (bound : Float) (w' : List ℕ) (p' q' : List Float) (n' : ℕ) (x : Pair)
+    (t : Result ⊤ Reason) {a : StepAnswer} → a ≡ told_by x t → PairTaken v f w p q n target limit bound x a w' p' q' n' →
     QueueStep v f w p q n target limit bound w' p' q' n' a
 unfolding told_by
-queue-step v f w p q n target limit bound w' p' q' n' x Allowed e taken =
+queue-step v f w p q n target limit bound w' p' q' n' x (Ok _) e taken =
     subst (λ (a : StepAnswer). QueueStep v f w p q n target limit bound w' p' q' n' a) (sym e)
     (subst (λ (a : StepAnswer). PairTaken v f w p q n target limit bound x a w' p' q' n') e taken)
-queue-step v f w p q n target limit bound w' p' q' n' x (Not reason) e taken =
+queue-step v f w p q n target limit bound w' p' q' n' x (Err reason) e taken =
     subst (λ (a : StepAnswer). QueueStep v f w p q n target limit bound w' p' q' n' a) (sym e)
     (subst (λ (a : StepAnswer). PairTaken v f w p q n target limit bound x a w' p' q' n') e taken)
 
-module _ {v f : ℕ} {w : List ℕ} {p q : List Float} {n live : ℕ} {bound : Float} (h : HeapHolds v f w p q n live bound) (target : ℕ) (limit : Limit) where
+module _ {v f : ℕ} {w : List ℕ} {p q : List Float} {n live : ℕ} {bound : Float} (h : HeapHolds v f w p q n live bound) (target : ℕ) (limit : Option Float) where
   -- what a current entry is compared by is its pair's place in the walk's order
   order-entry : (e : Entry) → EntryKept v f w p q bound e → is_present v f w e ≡ true → order (rules_of limit bound) (mesh_of v f w p q) e.pair ≡ entry_rank e
   unfolding entry_rank rank order rules_of

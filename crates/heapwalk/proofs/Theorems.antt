@@ -6,7 +6,7 @@ use mathlib.Core.Path.{◌≡◌, sym, subst, ◌∙◌}
 use mathlib.Core.List.{List}
 use lib.Ieee.{Float}
 use lib.ListN.{length}
-use Rattle.placement.specs.declared.Limit.{Limit}
+use Rattle.std.specs.Prelude.{Option}
 use Rattle.walk.specs.Walk.{SameState}
 use Rattle.lists.proofs.BagLaws.{bag-sym}
 use Rattle.memory.specs.Points.{mesh_of}
@@ -30,7 +30,7 @@ use Rattle.heapwalk.specs.Steps.{HeapHolds, HeapStepDone}
 
 -- ---- the step
 
-module _ {v f : ℕ} {w u : List ℕ} {p q a b : List Float} {n m live : ℕ} (target : ℕ) {limit : Limit} {bound : Float} {w' u' : List ℕ} {p' q' a' b' : List Float} {r s : Stepped}
+module _ {v f : ℕ} {w u : List ℕ} {p q a b : List Float} {n m live : ℕ} (target : ℕ) {limit : Option Float} {bound : Float} {w' u' : List ℕ} {p' q' a' b' : List Float} {r s : Stepped}
     (h : HeapHolds v f w p q n live bound) (same : SameState (heap_state v f w p q n) (state_of v f u a b m))
     (heap : HeapStepDone v f w p q n target limit bound w' p' q' r) (plain : StepDone v f u a b m target limit bound u' a' b' s) where
   -- the state is sound, and its points can be numbered
@@ -51,7 +51,7 @@ module _ {v f : ℕ} {w u : List ℕ} {p q a b : List Float} {n m live : ℕ} (t
 -- ---- the walks
 
 -- the chain of the heap walk is the plain walk
-pub heap-walk-is-the-plain-walk : {v f : ℕ} {w : List ℕ} {p q : List Float} (target : ℕ) (limit : Limit) (bound : Float) {w' : List ℕ} {p' q' : List Float} {r : Walked} →
+pub heap-walk-is-the-plain-walk : {v f : ℕ} {w : List ℕ} {p q : List Float} (target : ℕ) (limit : Option Float) (bound : Float) {w' : List ℕ} {p' q' : List Float} {r : Walked} →
     Tidy v f w → length (live_faces f w) ≡ f → HeapWalked v f target limit bound w p q w' p' q' r → WalkDone v f w p q target limit bound w' p' q' r
 heap-walk-is-the-plain-walk {v} {f} target limit bound tidy whole walked =
     let first = walked.first in
@@ -61,7 +61,7 @@ heap-walk-is-the-plain-walk {v} {f} target limit bound tidy whole walked =
     walk-done limit bound tidy whole walked.start (chain-walked v f target limit bound first held walked.chain)
 
 -- whichever walk made them: from the same memory two walks have made the same folds in the same order, and left the same mesh, place by place and bit by bit
-module _ {v f : ℕ} {w : List ℕ} {p q : List Float} {target : ℕ} {limit : Limit} {bound : Float} {w₁ w₂ : List ℕ} {p₁ q₁ p₂ q₂ : List Float} {r₁ r₂ : Walked}
+module _ {v f : ℕ} {w : List ℕ} {p q : List Float} {target : ℕ} {limit : Option Float} {bound : Float} {w₁ w₂ : List ℕ} {p₁ q₁ p₂ q₂ : List Float} {r₁ r₂ : Walked}
     (one : WalkDone v f w p q target limit bound w₁ p₁ q₁ r₁) (two : WalkDone v f w p q target limit bound w₂ p₂ q₂ r₂) where
   pub same-folds-in-order : folds_in v f w₁ r₁.folds ≡ folds_in v f w₂ r₂.folds
   same-folds-in-order = one.same_list ∙ sym two.same_list

@@ -1,6 +1,5 @@
 -- The whole heap walk: a chain of states that are held, from the started queue to the end, each linked to the next by the step's statement.
-use Rattle.std.specs.Prelude.{ℕ, ◌+◌, ◌≡◌, ◌≢◌, List, [], ◌∷◌, ◌++◌, length, Float}
-use Rattle.placement.specs.declared.Limit.{Limit}
+use Rattle.std.specs.Prelude.{ℕ, ◌+◌, ◌≡◌, ◌≢◌, List, [], ◌∷◌, ◌++◌, length, Float, Option}
 use Rattle.walk.specs.declared.Pair.{Pair}
 use Rattle.walk.specs.declared.Reason.{Reason}
 use Rattle.walk.specs.Closings.{closings_of}
@@ -33,7 +32,7 @@ noted_step v f n (Folded x) m = noted v f n x m
 noted_step v f n (Closed x reason) m = m
 noted_step v f n Ended m = m
 
-module _ (v f target : ℕ) (limit : Limit) (bound : Float) where
+module _ (v f target : ℕ) (limit : Option Float) (bound : Float) where
   -- the memory holds a state of the heap walk
   abbrev pub HeldAt : Moment → Type 0
   HeldAt m = HeapHolds v f m.u32s m.f32s m.f64s m.pairs m.live bound

@@ -1,6 +1,5 @@
 -- The entries that a step puts into the queue.
-use Rattle.std.specs.Prelude.{ℕ, List, [], map, Bool, false, ◌||◌, eqb, Float, get_or}
-use Rattle.placement.specs.declared.Limit.{Limit}
+use Rattle.std.specs.Prelude.{ℕ, List, [], map, Bool, false, ◌||◌, eqb, Float, get_or, Option}
 use Rattle.placement.specs.declared.pair.Vertex.{Vertex}
 use Rattle.placement.specs.Pairs.{pair_place, pair_cost}
 use Rattle.walk.specs.declared.Pair.{Pair}
@@ -10,7 +9,7 @@ use Rattle.walk.specs.Walk.{StepAnswer, folded, closed, ended}
 use Rattle.meaning.specs.Arithmetic.{rules_of}
 use Rattle.memory.specs.declared.entries.Entry.{Entry}
 
-module _ (limit : Limit) (bound : Float) (m : Mesh Vertex) (stamps : List ℕ) where
+module _ (limit : Option Float) (bound : Float) (m : Mesh Vertex) (stamps : List ℕ) where
   -- the entry that a pair gets in a mesh: its cost and its place there, and the stamps of its points
   unfoldable pub entry_for : Pair → Entry
   entry_for x =

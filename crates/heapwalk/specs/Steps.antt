@@ -1,6 +1,5 @@
 -- One step of the heap walk: what it does to the queue, and that its answer and the state after it are the plain walk's.
-use Rattle.std.specs.Prelude.{ℕ, ◌+◌, ◌≤◌, ◌<◌, ◌≡◌, ◌⊎◌, List, ◌∷◌, ◌++◌, true, cond, length, Float}
-use Rattle.placement.specs.declared.Limit.{Limit}
+use Rattle.std.specs.Prelude.{ℕ, ◌+◌, ◌≤◌, ◌<◌, ◌≡◌, ◌⊎◌, List, ◌∷◌, ◌++◌, true, cond, length, Float, Option}
 use Rattle.placement.specs.declared.pair.Vertex.{Vertex}
 use Rattle.walk.specs.declared.Pair.{Pair}
 use Rattle.lists.specs.Lists.{every, SameBag}
@@ -35,7 +34,7 @@ abbrev pub StampsRaised : (v f : ℕ) (w : List ℕ) (a : StepAnswer) (w' : List
 StampsRaised v f w a w' = (y : ℕ) → y < v → stamp v f w' y ≡ stamp v f w y + cond (raises a y) 1 0
 
 -- An answer is given and acted on in a state s: the state after it is the plain walk's, the open pairs in any order.
-pub record HeapAnswer (v f : ℕ) (s : State Vertex) (w : List ℕ) (p q : List Float) (limit : Limit) (bound : Float) (a : StepAnswer) (w' : List ℕ)
+pub record HeapAnswer (v f : ℕ) (s : State Vertex) (w : List ℕ) (p q : List Float) (limit : Option Float) (bound : Float) (a : StepAnswer) (w' : List ℕ)
     (p' q' : List Float) (r : Stepped) : Type 0 where
   pub holds : HeapHolds v f w' p' q' r.«open» r.live bound
   pub within : StepWithin v f w p q w' p' q'
@@ -46,7 +45,7 @@ pub record HeapAnswer (v f : ℕ) (s : State Vertex) (w : List ℕ) (p q : List 
 
 -- The pair x is answered, above the target: it is that of the least current entry by stored cost, keep, remove, which is taken off. Others go with it, all
 -- of them old: those over it, and where old ones are thrown out any. Of those left, old ones may be thrown out, and the others stay as they are stored.
-pub record PairTaken (v f : ℕ) (w : List ℕ) (p q : List Float) (n target : ℕ) (limit : Limit) (bound : Float) (x : Pair) (a : StepAnswer)
+pub record PairTaken (v f : ℕ) (w : List ℕ) (p q : List Float) (n target : ℕ) (limit : Option Float) (bound : Float) (x : Pair) (a : StepAnswer)
     (w' : List ℕ) (p' q' : List Float) (n' : ℕ) : Type 0 where
   pub above : target < length (live_faces f w)
   pub top : Entry
@@ -73,14 +72,14 @@ pub record NoneCurrent (v f : ℕ) (w : List ℕ) (p q : List Float) (n target n
   pub none : n' ≡ 0
 
 -- by the answer: the end is told at the target or with no current entry, and nowhere else
-abbrev pub QueueStep : (v f : ℕ) (w : List ℕ) (p q : List Float) (n target : ℕ) (limit : Limit) (bound : Float) (w' : List ℕ) (p' q' : List Float) (n' : ℕ) → StepAnswer → Type 0
+abbrev pub QueueStep : (v f : ℕ) (w : List ℕ) (p q : List Float) (n target : ℕ) (limit : Option Float) (bound : Float) (w' : List ℕ) (p' q' : List Float) (n' : ℕ) → StepAnswer → Type 0
 QueueStep v f w p q n target limit bound w' p' q' n' (folded x) = PairTaken v f w p q n target limit bound x (folded x) w' p' q' n'
 QueueStep v f w p q n target limit bound w' p' q' n' (closed x reason) =
     PairTaken v f w p q n target limit bound x (closed x reason) w' p' q' n'
 QueueStep v f w p q n target limit bound w' p' q' n' ended = AtTarget f w p q n target w' p' q' n' ⊎ NoneCurrent v f w p q n target n'
 
 -- A step: its answer is the plain walk's, and so is the state after it; and what became of the queue.
-pub record HeapStepDone (v f : ℕ) (w : List ℕ) (p q : List Float) (n target : ℕ) (limit : Limit) (bound : Float) (w' : List ℕ) (p' q' : List Float) (r : Stepped) : Type 0 where
+pub record HeapStepDone (v f : ℕ) (w : List ℕ) (p q : List Float) (n target : ℕ) (limit : Option Float) (bound : Float) (w' : List ℕ) (p' q' : List Float) (r : Stepped) : Type 0 where
   pub tied : HeapAnswer v f (heap_state v f w p q n) w p q limit bound (answer (rules_of limit bound) target (heap_state v f w p q n)) w' p' q' r
   pub raised : StampsRaised v f w (answer_of r.step) w'
   pub on_queue : QueueStep v f w p q n target limit bound w' p' q' r.«open» (answer_of r.step)

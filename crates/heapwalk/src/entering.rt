@@ -9,26 +9,17 @@ ghost use Rattle.queue.specs.State.{open_in};
 ghost use Rattle.memory.specs.Memory.{Room, around_in};
 ghost use Rattle.heapwalk.specs.Clauses.Entering.{Open, Entered, Started};
 ghost use Rattle.heapwalk.specs.Clauses.Listing.{pairs_with, Enterable, EnteredBeside};
-ghost use Rattle.heapwalk.specs.Clauses.Reading.{part_of, PointsListed, PartRead, ReadBefore, ReadAt};
+ghost use Rattle.heapwalk.specs.Clauses.Reading.{PointsListed, PartRead, ReadBefore, ReadAt};
 ghost use Rattle.memory.specs.Layout.{costs_to, places_to};
 
 use geometry::Quadric;
 use memory::{vertex_at, vertex_with};
-use placement::pair::{Candidate, pair_candidate};
+use placement::pair::pair_candidate;
 use placement::{Bounds, Fold};
+use ring::Neighbours;
 
 // How many quadrics are read at a time.
 const AT_A_TIME: usize = 8;
-
-// How many of so many listed points are read next.
-fn next_part(left: usize) -> usize
-    ensures { result ≡ part_of left }
-{
-    if left < AT_A_TIME {
-        return left;
-    }
-    AT_A_TIME
-}
 
 // Copies the quadrics of some listed points, from one on, side by side.
 fn read_part(w: &[u32], q: &[f64], v: usize, f: usize, from: usize, some: usize, near: &mut [f64])
@@ -56,7 +47,8 @@ fn read_ahead(w: &[u32], q: &[f64], v: usize, f: usize, count: usize, i: usize, 
     ensures { ReadAt v f w.now q.now count i near.new }
 {
     if i % AT_A_TIME == 0 {
-        read_part(w, q, v, f, i, next_part(count - i), near);
+        let some = (count - i).min(AT_A_TIME);
+        read_part(w, q, v, f, i, some, near);
     }
 }
 
@@ -81,15 +73,15 @@ fn enter_pair(
     let goes = vertex_with(w, p, v, f, y as usize, quadric);
     let limit = bounds.limit;
     match pair_candidate(stays, goes, limit, bounds.size) {
-        Candidate::Eligible(cost, place) => {
+        Some(choice) => {
             let fold = Fold {
                 keep: x,
                 remove: y,
-                place,
+                place: choice.place,
             };
-            queue::push(w, p, q, v, f, n, fold, cost)
-        },
-        Candidate::Ineligible => n,
+            queue::push(w, p, q, v, f, n, fold, choice.cost)
+        }
+        None => n,
     }
 }
 
@@ -111,13 +103,11 @@ fn enter_listed(
 {
     let mut near = [0.0f64; 80];
     let mut entries = n;
-    let mut i = 0;
-    while i < count {
+    for i in 0..count {
         read_ahead(w, q, v, f, count, i, &mut near);
         let y = memory::around_at(w, v, f, i);
         let quadric = memory::quadric_at(&near, i % AT_A_TIME);
         entries = enter_pair(w, p, q, v, f, entries, x, y, quadric, bounds);
-        i += 1;
     }
     entries
 }
@@ -130,16 +120,16 @@ pub fn enter_around(
     v: usize,
     f: usize,
     n: usize,
-    rising: bool,
+    which: Neighbours,
     x: u32,
     bounds: Bounds,
 ) -> usize
     requires fact_1 { Open v f w.old p.old q.old n bounds.size }
     requires fact_2 { x < v }
-    requires room { length (open_in v f w.old n) + length (opened_around (rules_of bounds.limit bounds.size) (mesh_of v f w.old p.old q.old) rising x) ≤ 3 * f }
-    ensures { Entered v f w.old p.old q.old n bounds.limit bounds.size (opened_around (rules_of bounds.limit bounds.size) (mesh_of v f w.old p.old q.old) rising x) w.new p.new q.new result }
+    requires room { length (open_in v f w.old n) + length (opened_around (rules_of bounds.limit bounds.size) (mesh_of v f w.old p.old q.old) which x) ≤ 3 * f }
+    ensures { Entered v f w.old p.old q.old n bounds.limit bounds.size (opened_around (rules_of bounds.limit bounds.size) (mesh_of v f w.old p.old q.old) which x) w.new p.new q.new result }
 {
-    let count = ring::list_around(w, v, f, rising, x);
+    let count = ring::list_around(w, v, f, which, x);
     enter_listed(w, p, q, v, f, n, x, count, bounds)
 }
 
@@ -159,10 +149,8 @@ pub fn enter_start(
 {
     queue::empty(w, p, q, v, f);
     let mut n = 0;
-    let mut x = 0;
-    while x < v {
-        n = enter_around(w, p, q, v, f, n, true, x as u32, bounds);
-        x += 1;
+    for x in 0..v {
+        n = enter_around(w, p, q, v, f, n, Neighbours::Rising, x as u32, bounds);
     }
     n
 }

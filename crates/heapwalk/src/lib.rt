@@ -16,27 +16,17 @@ ghost use Rattle.memory.specs.Layout.{costs_to, places_to};
 
 mod entering;
 
-use folding::Tried;
+use memory::Entry;
 use placement::{Bounds, Fold};
 use plainwalk::{Step, Stepped, Walked};
-use queue::Taken;
-use walk::Pair;
+use ring::Neighbours;
+use walk::{Closings, Pair};
 
 // A step, and how many more entries there are for what it put in.
 #[derive(Clone, Copy)]
 pub struct Paced {
     pub stepped: Stepped,
     pub pushed: usize,
-}
-
-// How many more there are than there were.
-fn more_than(before: usize, after: usize) -> usize
-    ensures { result ≡ after - before }
-{
-    if before < after {
-        return after - before;
-    }
-    0
 }
 
 // Tries a pair that is off the queue: the mesh is folded where that is allowed, and then both stamps rise and the pairs around keep are entered; where it isn't
@@ -58,10 +48,20 @@ fn try_pair(
     let keep = fold.keep;
     let remove = fold.remove;
     match folding::try_fold(w, p, q, v, f, fold) {
-        Tried::Folded(gone) => {
+        Ok(gone) => {
             queue::bump(w, v, f, keep as usize);
             queue::bump(w, v, f, remove as usize);
-            let more = entering::enter_around(w, p, q, v, f, entries, false, keep, bounds);
+            let more = entering::enter_around(
+                w,
+                p,
+                q,
+                v,
+                f,
+                entries,
+                Neighbours::Every,
+                keep,
+                bounds,
+            );
             let left = live - gone;
             let stepped = Stepped {
                 step: Step::Folded(Pair { keep, remove }),
@@ -70,10 +70,10 @@ fn try_pair(
             };
             Paced {
                 stepped,
-                pushed: more_than(entries, more),
+                pushed: more.saturating_sub(entries),
             }
         }
-        Tried::Refused(reason) => {
+        Err(reason) => {
             let stepped = Stepped {
                 step: Step::Closed(Pair { keep, remove }, reason),
                 open: entries,
@@ -116,19 +116,16 @@ pub fn heap_step(
     if live <= target {
         return ended(entries, live);
     }
-    match queue::take_first(w, p, q, v, f, entries, thin) {
-        Taken::Found(top, left) => {
-            let pair = top.pair;
-            let place = top.place;
-            let fold = Fold {
-                keep: pair.keep,
-                remove: pair.remove,
-                place,
-            };
-            try_pair(w, p, q, v, f, left, live, fold, bounds)
-        }
-        Taken::Empty => ended(0, live),
-    }
+    let Some((top, left)) = queue::take_first(w, p, q, v, f, entries, thin) else {
+        return ended(0, live);
+    };
+    let Entry { pair, place, .. } = top;
+    let fold = Fold {
+        keep: pair.keep,
+        remove: pair.remove,
+        place,
+    };
+    try_pair(w, p, q, v, f, left, live, fold, bounds)
 }
 
 // How many entries may be put in before old ones are thrown out again, after a step. Where they were thrown out it is a third of those left, so that what a
@@ -139,7 +136,7 @@ fn room_next(thin: bool, room: usize, pushed: usize, entries: usize) -> usize
     if thin {
         return entries / 3;
     }
-    more_than(pushed, room)
+    room.saturating_sub(pushed)
 }
 
 // Takes steps from any state, to the end.
@@ -160,7 +157,7 @@ fn walk_on(
     let mut queued = entries;
     let mut faces_live = live;
     let mut folds = 0;
-    let mut closed = walk::none_closed();
+    let mut closed = Closings::default();
     let mut room = entries / 3;
     loop {
         let thin = room == 0;
@@ -176,7 +173,7 @@ fn walk_on(
                 folds += 1;
             }
             Step::Closed(_, reason) => {
-                closed = walk::counted(closed, reason);
+                closed = closed.with(reason);
             }
             Step::Ended => {
                 return Walked {

@@ -14,7 +14,6 @@ use Rattle.std.proofs.Common.{add-one}
 use Rattle.std.proofs.lemmas.List.{get_or_default}
 use borrow.Author.Tests.{ltb-true, ltb-false, leb-false}
 use Rattle.geometry.specs.Constants.{nought}
-use Rattle.meaning.specs.declared.Options.{Options}
 use Rattle.meaning.specs.Input.{Input}
 use Rattle.meaning.specs.Outcome.{outcome}
 use Rattle.meaning.specs.Call.{lent, left_as, Answered}
@@ -36,7 +35,7 @@ use Rattle.lists.proofs.DropLaws.{rest_more}
 use Rattle.lists.proofs.TestLaws.{by-test, clash}
 use Rattle.hjoltravan.specs.Calls.{Called}
 use Rattle.hjoltravan.specs.Orders.{input_at, stated_u32s, stated_f32s, stated_f64s, longest, work_after, lent_at, DoneAlone, has, ElseSame, RestSame, Served, CalledForOrders}
-use Rattle.hjoltravan.proofs.CallLaws.{called}
+use Rattle.hjoltravan.proofs.CallLaws.{called, called-with-folds}
 
 -- a cell that a part doesn't have lies beside it
 else-beside : (p : Part) (c : ℕ) → has p c ≡ false → Beside p c
@@ -190,7 +189,7 @@ module _ (s : Sources) (orders : List Order) (before : Desk) (fine : refused ord
         Called Heap (same-input t) (same-lent t)
         (lent (sym points-written.own t) (sym faces-written.own t) (u32s-after t) (f32s-after t) (f64s-after t))
         (sym answer-written.own t) (sym closed-written.own t))
-        (called {made = (input k).options} (λ (_ : Options). input_for s d.buffers o) refl done.alone.thinned (refl, refl))
+        (called (called-with-folds done.alone.thinned refl refl))
 
     one-more-done : SoFar (suc k) d'
     one-more-done =

@@ -1,9 +1,9 @@
 -- What a call through C leaves: the entry's outcome, with the answer as five numbers and the pairs closed as three, and the folds where they are asked for;
 -- and the writer's, with the answer as three.
-use Rattle.std.specs.Prelude.{ℕ, ◌≡◌, List, length, Float}
+use Rattle.std.specs.Prelude.{ℕ, ◌≡◌, List, length, Float, Ok}
 use Rattle.meaning.specs.Input.{Input}
 use Rattle.meaning.specs.Outcome.{outcome}
-use Rattle.meaning.specs.declared.Verdict.TheVariants.{Admitted}
+use Rattle.meaning.specs.declared.Task.TheVariants.{Admitted}
 use Rattle.meaning.specs.Answers.{verdict_of}
 use Rattle.meaning.specs.Call.{Lent, Answered}
 use Rattle.walking.specs.declared.Engine.{Engine}
@@ -16,7 +16,7 @@ pub record Called (engine : Engine) (i : Input) (before after : Lent) (five clos
   pub told : five ≡ five_of (outcome i).answer
   pub told_closed : closed ≡ by_reason (outcome i).answer
   pub left : Answered i before after (outcome i).answer
-  pub made : verdict_of i ≡ Admitted → MadeBy engine i before after (outcome i).answer
+  pub made : verdict_of i ≡ Ok Admitted → MadeBy engine i before after (outcome i).answer
 
 -- the same, with the list of folds that the entry's statement says
 pub record CalledWithFolds (engine : Engine) (i : Input) (before after : Lent) (folds folds' five closed : List ℕ) : Type 0 where

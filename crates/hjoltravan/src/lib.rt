@@ -7,25 +7,39 @@ ghost use Rattle.bits.specs.Narrow.{narrow_bits};
 ghost use Rattle.bits.specs.Order.{order_key};
 ghost use Rattle.meaning.specs.Call.{lent, input_of};
 ghost use Rattle.walking.specs.declared.Engine.TheVariants.{Plain, Heap};
-ghost use Rattle.thinning.specs.Told.{options_of, five_of, by_reason};
+ghost use Rattle.thinning.specs.Told.{options_of};
 ghost use Rattle.serving.specs.Desks.{sources, desk};
 ghost use Rattle.hjoltravan.specs.Orders.{CalledForOrders};
 ghost use Rattle.hjoltravan.specs.Calls.{Called, CalledWithFolds, CalledToWrite};
 
-use meaning::Answer;
+use meaning::Options;
 use orders::{Buffers, Order};
-use scanwriter::Writing;
 use serving::thin_order;
-use walk::Closings;
 use walking::Engine;
 
-// An answer as five numbers, and the pairs closed as three.
-fn tell(answer: &mut [u32; 5], closed: &mut [u64; 3], r: Answer)
-    ensures { (answer.new ≡ five_of r) × (closed.new ≡ by_reason r) }
+// Thins a mesh by an engine, lists its folds, and tells the answer as five numbers and the pairs closed as three.
+fn thin_and_tell(
+    engine: Engine,
+    points: &[f32],
+    faces: &[u32],
+    margin: &[u32],
+    options: Options,
+    out_points: &mut [f32],
+    out_faces: &mut [u32],
+    work_u32: &mut [u32],
+    work_f32: &mut [f32],
+    work_f64: &mut [f64],
+    folds: &mut [u32],
+    answer: &mut [u32; 5],
+    closed: &mut [u64; 3],
+)
+    ensures { CalledWithFolds engine (input_of points.now faces.now margin.now options (lent out_points.old out_faces.old work_u32.old work_f32.old work_f64.old)) (lent out_points.old out_faces.old work_u32.old work_f32.old work_f64.old) (lent out_points.new out_faces.new work_u32.new work_f32.new work_f64.new) folds.old folds.new answer.new closed.new }
 {
-    *answer = [r.number, r.place, r.points, r.faces, r.folds];
-    let by_reason: Closings = r.closed;
-    *closed = [by_reason.unlinked, by_reason.squashed, by_reason.turned];
+    let r = thinning::thin(
+        engine, points, faces, margin, options, out_points, out_faces, work_u32, work_f32,
+        work_f64, folds,
+    );
+    serving::tell(answer, closed, r);
 }
 
 // Thins a mesh by the heap walk.
@@ -51,7 +65,7 @@ pub extern "C" fn hjoltravan_thin(
 {
     let options = thinning::options_of(unit, ratio, preserve, limited, limit);
     let mut folds = [0u32; 1];
-    let r = thinning::thin(
+    thin_and_tell(
         Engine::Heap,
         points,
         faces,
@@ -63,8 +77,9 @@ pub extern "C" fn hjoltravan_thin(
         work_f32,
         work_f64,
         &mut folds,
+        answer,
+        closed,
     );
-    tell(answer, closed, r);
 }
 
 // Thins a mesh by the plain walk.
@@ -90,7 +105,7 @@ pub extern "C" fn hjoltravan_thin_plain(
 {
     let options = thinning::options_of(unit, ratio, preserve, limited, limit);
     let mut folds = [0u32; 1];
-    let r = thinning::thin(
+    thin_and_tell(
         Engine::Plain,
         points,
         faces,
@@ -102,8 +117,9 @@ pub extern "C" fn hjoltravan_thin_plain(
         work_f32,
         work_f64,
         &mut folds,
+        answer,
+        closed,
     );
-    tell(answer, closed, r);
 }
 
 // Thins a mesh by the heap walk, and lists its folds.
@@ -129,7 +145,7 @@ pub extern "C" fn hjoltravan_thin_folds(
     ensures { CalledWithFolds Heap (input_of points.now faces.now margin.now (options_of unit ratio preserve limited limit) (lent out_points.old out_faces.old work_u32.old work_f32.old work_f64.old)) (lent out_points.old out_faces.old work_u32.old work_f32.old work_f64.old) (lent out_points.new out_faces.new work_u32.new work_f32.new work_f64.new) folds.old folds.new answer.new closed.new }
 {
     let options = thinning::options_of(unit, ratio, preserve, limited, limit);
-    let r = thinning::thin(
+    thin_and_tell(
         Engine::Heap,
         points,
         faces,
@@ -141,8 +157,9 @@ pub extern "C" fn hjoltravan_thin_folds(
         work_f32,
         work_f64,
         folds,
+        answer,
+        closed,
     );
-    tell(answer, closed, r);
 }
 
 // Thins many orders, each on its own parts of the buffers and as if it were alone.
@@ -174,13 +191,11 @@ pub extern "C" fn hjoltravan_thin_orders(
     if orders::refused(orders, cells) {
         return 41;
     }
-    let mut k = 0;
-    while k < orders.len() {
+    for (place, order) in orders.iter().enumerate() {
         thin_order(
-            orders[k], k, points, faces, margins, out_points, out_faces, work_u32, work_f32,
+            *order, place, points, faces, margins, out_points, out_faces, work_u32, work_f32,
             work_f64, answers, closed,
         );
-        k = k + 1;
     }
     0
 }
@@ -197,12 +212,8 @@ pub extern "C" fn hjoltravan_write_scan(
     ensures { CalledToWrite unit points.now faces.now file.old file.new answer.new }
 {
     match scanwriter::write_scan(unit, points, faces, file) {
-        Writing::Bytes(n) => {
-            *answer = [0, 0, n as u32];
-        }
-        Writing::Refused(number, place) => {
-            *answer = [number, place, 0];
-        }
+        Ok(size) => *answer = [0, 0, size as u32],
+        Err(fault) => *answer = [fault.number(), fault.place(), 0],
     }
 }
 

@@ -2,7 +2,7 @@
 -- Assumes nothing.
 use Prim.Native.Nat.{ℕ, ◌+◌, ◌*◌, ◌/◌, ◌≤◌}
 use native.Mathlib.Omega.{arith}
-use mathlib.Core.Path.{◌≡◌, refl, sym, ap}
+use mathlib.Core.Path.{◌≡◌, refl, ap}
 use mathlib.Core.List.{List, [], ◌∷◌}
 use mathlib.Core.Bool.{Bool, true, false}
 use lib.Dec.{leb}
@@ -14,33 +14,36 @@ use Rattle.text.specs.Lines.{word_line, lines_to}
 use Rattle.lists.specs.Puts.{Put}
 use Rattle.lists.proofs.PutLaws.{wider, both, whole}
 use Rattle.text.proofs.RoomLaws.{NoLonger, two-within, word-within, decimal-within, hexadecimal-within, number-within, line-within, lines-within}
-use Rattle.listing.specs.declared.Printed.TheVariants.{Bytes, NoRoom}
+use Rattle.std.specs.Prelude.{Some, None}
 use Rattle.listing.specs.Texts.{float_then, point_line, face_line, answer_word, unit_word, folds_word, vertices_word, faces_word, place_word, head_text, refusal_text, mesh_text, refusal_room, mesh_room, mesh_fits}
 use Rattle.listing.specs.Written.{Prints}
-use Rattle.listing.specs.Clauses.{MeshAsked}
 
 -- ---- what an entry leaves
 
 -- nothing is written where the text doesn't fit
-pub not-printed : {fits : Bool} {text old : List ℕ} → fits ≡ false → Prints fits text old old NoRoom
+pub not-printed : {fits : Bool} {text old : List ℕ} → fits ≡ false → Prints fits text old old None
 not-printed small = rw small (record { answered = refl; written = refl })
 
 -- where it fits, the text stands whole
 pub all-printed : {fits : Bool} {most r : ℕ} {text old new : List ℕ} → fits ≡ true → most ≤ length old → Put most text 0 old new r →
-    Prints fits text old new (Bytes r)
+    Prints fits text old new (Some r)
 all-printed {r = r} {text = text} large room done =
     let size : r ≡ length text = omega arith in
-    rw large (record { answered = ap Bytes size; written = whole done room })
+    rw large (record { answered = ap Some size; written = whole done room })
 
 -- a mesh, of its four parts
-pub mesh-stored : (unit folds v f : ℕ) (points : List Float) (faces : List ℕ) {p q r s : ℕ} {a b c d e : List ℕ} → MeshAsked points faces v f a →
+pub mesh-stored : (unit folds : ℕ) (points : List Float) (faces : List ℕ) {p q r s : ℕ} {a b c d e : List ℕ} →
+    let v = length points / 3 in
+    let f = length faces / 3 in
     Put 71 (head_text unit folds v) 0 a b p → Put (27 * v) (lines_to (point_line points) v) p b c q →
     Put 17 (word_line faces_word f) q c d r → Put (33 * f) (lines_to (face_line faces) f) r d e s →
     Put (mesh_room v f) (mesh_text unit folds points faces) 0 a e s
 unfolding mesh_text
-mesh-stored unit folds v f points faces asked head points-put line faces-put =
+mesh-stored unit folds points faces head points-put line faces-put =
+    let v = length points / 3 in
+    let f = length faces / 3 in
     let most : 71 + (27 * v + (17 + 33 * f)) ≤ mesh_room v f = omega arith in
-    rw (sym asked.points_counted, sym asked.faces_counted) (wider most (both head (both points-put (both line faces-put))))
+    wider most (both head (both points-put (both line faces-put)))
 
 -- what a mesh that fits asks
 pub fits-bounds : (room v f : ℕ) → mesh_fits room v f ≡ true → (v ≤ 65536) × (f ≤ 131072) × (mesh_room v f ≤ room)

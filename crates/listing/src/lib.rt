@@ -9,16 +9,7 @@ ghost use Rattle.listing.specs.Written.{Prints};
 ghost use Rattle.listing.specs.Clauses.{MeshAsked};
 
 use bits::patterns::bits_of_f32;
-use text::{
-    put_byte, put_decimal, put_hexadecimal, put_line, put_long_number, put_number, put_word,
-};
-
-// How many bytes were written; or the buffer is too short, or the mesh larger than document 01 allows, and nothing was.
-#[derive(Clone, Copy)]
-pub enum Printed {
-    Bytes(usize),
-    NoRoom,
-}
+use text::{put_byte, put_decimal, put_hexadecimal, put_line, put_number, put_word};
 
 // Writes a float by its bits and the byte after it.
 fn put_float(out: &mut [u8], at: usize, x: f32, end: u8) -> usize
@@ -31,8 +22,8 @@ fn put_float(out: &mut [u8], at: usize, x: f32, end: u8) -> usize
 
 // Writes the line of point number k.
 fn put_point(out: &mut [u8], at: usize, points: &[f32], k: usize) -> usize
-    requires fact_1 { at + 27 ≤ length out.old }
-    requires fact_2 { 3 * k + 2 < length points.now }
+    requires room { at + 27 ≤ length out.old }
+    requires there { 3 * k + 2 < length points.now }
     ensures { Put 27 (point_line points.now k) at out.old out.new result }
 {
     let first = 3 * k;
@@ -43,8 +34,8 @@ fn put_point(out: &mut [u8], at: usize, points: &[f32], k: usize) -> usize
 
 // Writes the line of face number k.
 fn put_face(out: &mut [u8], at: usize, faces: &[u32], k: usize) -> usize
-    requires fact_1 { at + 33 ≤ length out.old }
-    requires fact_2 { 3 * k + 2 < length faces.now }
+    requires room { at + 33 ≤ length out.old }
+    requires there { 3 * k + 2 < length faces.now }
     ensures { Put 33 (face_line faces.now k) at out.old out.new result }
 {
     let first = 3 * k;
@@ -55,12 +46,12 @@ fn put_face(out: &mut [u8], at: usize, faces: &[u32], k: usize) -> usize
 
 // Writes the lines of the first v points.
 fn put_points(out: &mut [u8], at: usize, points: &[f32], v: usize) -> usize
-    requires fact_1 { at + 27 * v ≤ length out.old }
-    requires fact_2 { 3 * v ≤ length points.now }
+    requires room { at + 27 * v ≤ length out.old }
+    requires all_there { 3 * v ≤ length points.now }
     ensures { Put (27 * v) (lines_to (point_line points.now) v) at out.old out.new result }
 {
     let mut next = at;
-    for k in 0usize..v {
+    for k in 0..v {
         next = put_point(out, next, points, k);
     }
     next
@@ -68,12 +59,12 @@ fn put_points(out: &mut [u8], at: usize, points: &[f32], v: usize) -> usize
 
 // Writes the lines of the first f faces.
 fn put_faces(out: &mut [u8], at: usize, faces: &[u32], f: usize) -> usize
-    requires fact_1 { at + 33 * f ≤ length out.old }
-    requires fact_2 { 3 * f ≤ length faces.now }
+    requires room { at + 33 * f ≤ length out.old }
+    requires all_there { 3 * f ≤ length faces.now }
     ensures { Put (33 * f) (lines_to (face_line faces.now) f) at out.old out.new result }
 {
     let mut next = at;
-    for k in 0usize..f {
+    for k in 0..f {
         next = put_face(out, next, faces, k);
     }
     next
@@ -91,18 +82,12 @@ fn put_head(out: &mut [u8], unit: u32, folds: u32, v: u32) -> usize
 }
 
 // Writes a mesh where there is room for it, and answers how many bytes.
-fn put_mesh(
-    out: &mut [u8],
-    unit: u32,
-    folds: u32,
-    points: &[f32],
-    faces: &[u32],
-    v: usize,
-    f: usize,
-) -> usize
-    requires { MeshAsked points.now faces.now v f out.old }
-    ensures { Put (mesh_room v f) (mesh_text unit folds points.now faces.now) 0 out.old out.new result }
+fn put_mesh(out: &mut [u8], unit: u32, folds: u32, points: &[f32], faces: &[u32]) -> usize
+    requires { MeshAsked points.now faces.now out.old }
+    ensures { Put (mesh_room (length points.now / 3) (length faces.now / 3)) (mesh_text unit folds points.now faces.now) 0 out.old out.new result }
 {
+    let v = points.len() / 3;
+    let f = faces.len() / 3;
     let first_point = put_head(out, unit, folds, v as u32);
     let count = put_points(out, first_point, points, v);
     let first_face = put_line(out, count, b"faces ", f as u32);
@@ -113,13 +98,7 @@ fn put_mesh(
 fn mesh_fits(room: usize, v: usize, f: usize) -> bool
     ensures { result ≡ mesh_fits room v f }
 {
-    if 65536 < v {
-        return false;
-    }
-    if 131072 < f {
-        return false;
-    }
-    27 * v + 33 * f + 88 <= room
+    v <= 65536 && f <= 131072 && 27 * v + 33 * f + 88 <= room
 }
 
 // Writes the line of the pairs closed: not linked, squashed, turned over.
@@ -128,32 +107,37 @@ pub fn put_closed(out: &mut [u8], at: usize, unlinked: u64, squashed: u64, turne
     ensures { Put 70 (closed_text unlinked squashed turned) at out.old out.new result }
 {
     let first = put_word(out, at, b"closed ");
-    let second = put_long_number(out, first, unlinked, b' ');
-    let third = put_long_number(out, second, squashed, b' ');
-    put_long_number(out, third, turned, b'\n')
+    let second = put_number(out, first, unlinked, b' ');
+    let third = put_number(out, second, squashed, b' ');
+    put_number(out, third, turned, b'\n')
 }
 
-// Prints a refusal: one line with its number and place.
-pub fn list_refusal(out: &mut [u8], number: u32, place: u32) -> Printed
+// Prints a refusal, one line with its number and place, and answers how many bytes. There is none where the buffer is too short, and nothing is written.
+pub fn list_refusal(out: &mut [u8], number: u32, place: u32) -> Option<usize>
     ensures { Prints (refusal_fits (length out.old)) (refusal_text number place) out.old out.new result }
 {
     if out.len() < 35 {
-        return Printed::NoRoom;
+        return None;
     }
     let next = put_word(out, 0, b"answer ");
     let after = put_decimal(out, next, number);
-    Printed::Bytes(put_line(out, after, b" place ", place))
+    Some(put_line(out, after, b" place ", place))
 }
 
-// Prints a mesh: the unit, the folds made, the points by their bits and the faces by their points' numbers, three to each.
-pub fn list_mesh(out: &mut [u8], unit: u32, folds: u32, points: &[f32], faces: &[u32]) -> Printed
+// Prints a mesh: the unit, the folds made, the points by their bits and the faces by their points' numbers, three to each. Answers how many bytes.
+// There is none where the buffer is too short or the mesh larger than document 01 allows, and nothing is written.
+pub fn list_mesh(
+    out: &mut [u8],
+    unit: u32,
+    folds: u32,
+    points: &[f32],
+    faces: &[u32],
+) -> Option<usize>
     ensures { Prints (mesh_fits (length out.old) (length points.now / 3) (length faces.now / 3)) (mesh_text unit folds points.now faces.now) out.old out.new result }
 {
-    let v = points.len() / 3;
-    let f = faces.len() / 3;
-    if mesh_fits(out.len(), v, f) {
-        Printed::Bytes(put_mesh(out, unit, folds, points, faces, v, f))
+    if mesh_fits(out.len(), points.len() / 3, faces.len() / 3) {
+        Some(put_mesh(out, unit, folds, points, faces))
     } else {
-        Printed::NoRoom
+        None
     }
 }

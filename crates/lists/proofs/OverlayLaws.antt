@@ -1,13 +1,11 @@
 -- A list written over the beginning of another, one element after another.
 -- Assumes nothing.
-use Prim.Native.Nat.{ℕ, zero, suc, ◌+◌, ◌≤◌, ◌<◌}
-use native.Mathlib.Nat.{le_antisymm}
-use native.Mathlib.Numerals.{add-one}
+use Prim.Native.Nat.{ℕ, suc, ◌+◌, ◌≤◌, ◌<◌}
 use native.Mathlib.Omega.{arith}
-use mathlib.Core.Path.{◌≡◌, refl, sym, ap, subst, ◌∙◌}
+use mathlib.Core.Path.{◌≡◌, sym, ap, ◌∙◌}
 use mathlib.Core.List.{List, [], ◌∷◌, ◌++◌, append_assoc}
-use lib.ListN.{length, get_or, take, drop, set, replicate, length-append, length-replicate}
-use lib.Seq.{drop-cons, set_at, take-suc, length-take-le, take-length, length_front}
+use lib.ListN.{length, get_or, drop, set, replicate, length-append, length-replicate}
+use lib.Seq.{drop-cons, set_at, length-take-le, length_front}
 use Rattle.lists.specs.Lists.{overlaid}
 
 module _ {A : Type 0} where
@@ -36,16 +34,6 @@ module _ {A : Type 0} where
   pub length_over : (xs old : List A) → length xs ≤ length old → length (overlaid xs old) ≡ length old
   length_over xs old fits = length_front old xs (length xs) (sym (length-take-le (length xs) old fits))
 
-  -- ---- a loop that sets the first cells to one value
-
-  -- one element more at the end
-  replicate_more : (n : ℕ) (a : A) → replicate n a ++ (a ∷ []) ≡ replicate (n + 1) a
-  replicate_more n a = rw (add-one n) (more n)
-    where
-      more : (n : ℕ) → replicate n a ++ (a ∷ []) ≡ replicate (suc n) a
-      more zero = refl
-      more (suc n) = ap (λ (l : List A). a ∷ l) (more n)
-
   -- the first n are set
   abbrev pub cleared : A → ℕ → List A → List A
   cleared a n old = replicate n a ++ drop n old
@@ -53,39 +41,3 @@ module _ {A : Type 0} where
   -- it is as long as before
   pub length-cleared : (a : A) (n : ℕ) (old : List A) → n ≤ length old → length (cleared a n old) ≡ length old
   length-cleared a n old fits = length_front old (replicate n a) n (length-replicate n a ∙ sym (length-take-le n old fits))
-
-  -- one cell more is set
-  pub clear-more : (a : A) (n : ℕ) (old w : List A) → n < length w → length w ≡ length old → w ≡ cleared a n old → set w n a ≡ cleared a (n + 1) old
-  clear-more a n old w fits long e =
-      ap (λ (l : List A). set l n a) (e ∙ over-replicate n)
-      ∙ over-more (replicate n a) old a n (length-replicate n a) (omega arith)
-      ∙ rw (replicate_more n a) (sym (over-replicate (n + 1)))
-    where
-      over-replicate : (k : ℕ) → cleared a k old ≡ overlaid (replicate k a) old
-      over-replicate k = ap (λ (j : ℕ). replicate k a ++ drop j old) (sym (length-replicate k a))
-
-  -- all n are set
-  pub clear-all : (a : A) (i n : ℕ) (old w : List A) → i ≤ n → n ≤ i → w ≡ cleared a i old → w ≡ cleared a n old
-  clear-all a i n old w most least = subst (λ (k : ℕ). w ≡ cleared a k old) (le_antisymm most least)
-
-  -- ---- a loop that copies a list
-
-  -- the first n are copied
-  abbrev pub copied : ℕ → List A → List A → List A
-  copied n xs old = take n xs ++ drop n old
-
-  -- one element more is copied
-  pub copy_more : (n : ℕ) (xs old w : List A) (d : A) → n < length xs → length xs ≤ length old → w ≡ copied n xs old →
-      set w n (get_or xs n d) ≡ copied (n + 1) xs old
-  copy_more n xs old w d here fits e =
-      ap (λ (l : List A). set l n (get_or xs n d)) (e ∙ over-take n (omega arith))
-      ∙ over-more (take n xs) old (get_or xs n d) n (length-take-le n xs (omega arith)) (omega arith)
-      ∙ ap (λ (l : List A). overlaid l old) (sym (take-suc xs n d here) ∙ ap (λ (k : ℕ). take k xs) (sym (add-one n)))
-      ∙ sym (over-take (n + 1) (omega arith))
-    where
-      over-take : (k : ℕ) → k ≤ length xs → copied k xs old ≡ overlaid (take k xs) old
-      over-take k l = ap (λ (j : ℕ). take k xs ++ drop j old) (sym (length-take-le k xs l))
-
-  -- all are copied
-  pub copy-all : (n : ℕ) (xs old w : List A) → n ≤ length xs → length xs ≤ n → w ≡ copied n xs old → w ≡ overlaid xs old
-  copy-all n xs old w most least e = e ∙ rw (le_antisymm most least) (rw take-length refl)

@@ -6,8 +6,10 @@ use native.Mathlib.Numerals.{add-one}
 use native.Mathlib.Omega.{arith}
 use mathlib.Core.Path.{◌≡◌, refl, sym, ap, ◌∙◌}
 use mathlib.Core.List.{List, [], ◌∷◌, ◌++◌}
-use lib.ListN.{length, get_or, take, drop, set, length-append}
-use lib.Seq.{sets, length-sets, set_comm, take-suc, length-take-le, sets-eq}
+use borrow.Rule.Slice.PartMut.{put_mid}
+use lib.ListN.{length, take, drop, set, length-append}
+use lib.Seq.{sets, length-sets, set_comm, sets-eq}
+use Rattle.std.proofs.lemmas.List.{append_assoc, drop-drop}
 use Rattle.lists.specs.Puts.{Put}
 
 -- ---- runs of stores
@@ -33,22 +35,18 @@ last-first s l at k b long =
     ∙ ap (λ (j : ℕ). set (sets l at s) (at + j) b) (sym long)
     ∙ sym (sets-append s (b ∷ []) l at)
 
--- one byte more of a word
-pub word_more : (word old now : List ℕ) (at i : ℕ) → i < length word → now ≡ sets old at (take i word) →
-    set now (at + i) (get_or word i 0) ≡ sets old at (take (i + 1) word)
-word_more word old now at i here e =
-    let size : length (take i word) ≡ i = length-take-le i word (omega arith) in
-    rw (add-one i, take-suc word i 0 here)
-    (ap (λ (l : List ℕ). set l (at + i) (get_or word i 0)) e
-    ∙ ap (λ (j : ℕ). set (sets old at (take i word)) (at + j) (get_or word i 0)) (sym size)
-    ∙ sym (sets-append (take i word) (get_or word i 0 ∷ []) old at))
-
 -- ---- parts of a text
 
 -- a part as it was stored
 pub put : {most : ℕ} {text old new : List ℕ} {at r : ℕ} → new ≡ sets old at text → r ≡ at + length text → length text ≤ most → Put most text at old new r
 put {text = text} {old = old} {at = at} cells past short =
     record { cells = cells; past = past; short = short; same_room = ap length cells ∙ length-sets old at text }
+
+-- a part that is copied whole
+pub copied : {at k : ℕ} {word part old : List ℕ} → part ≡ word → k ≡ length word → at + length word ≤ length old →
+    Put (length word) word at old (put_mid at k old part) (at + length word)
+copied {at = at} {word = word} {old = old} same long room =
+    put (rw (same, long, drop-drop (length word) at old) (sym (sets-eq word old at room ∙ append_assoc (take at old) word (drop (at + length word) old)))) refl (omega arith)
 
 -- the same part, of at most more bytes
 pub wider : {most more : ℕ} {text old new : List ℕ} {at r : ℕ} → most ≤ more → Put most text at old new r → Put more text at old new r

@@ -1,40 +1,15 @@
--- Cells that are written one after another.
+-- Stretches of cells that are written.
 -- Assumes nothing.
 use Prim.Native.Nat.{ℕ, ◌+◌, ◌-◌, ◌≤◌, ◌<◌}
-use native.Mathlib.Nat.{le_antisymm, zero-add, not-suc-le-zero}
+use native.Mathlib.Nat.{zero-add, not-suc-le-zero}
 use native.Mathlib.Omega.{arith}
 use mathlib.Core.Path.{◌≡◌, sym, ap, subst, ◌∙◌}
 use mathlib.Core.List.{List}
-use lib.ListN.{length, set, get_or, drop, get_or-append}
-use lib.Seq.{get_or-set_same, get_or-set_other, get_or-append-add, get_or-drop}
-use borrow.Author.Count.{below_none, below_more}
+use lib.ListN.{length, get_or, drop, get_or-append}
+use lib.Seq.{get_or-append-add, get_or-drop}
 use Rattle.lists.specs.Frames.{Written}
 use Rattle.lists.specs.Lists.{overlaid}
 use Rattle.lists.proofs.OverlayLaws.{length_over}
-use Rattle.lists.proofs.FrameLaws.{but-refl, but-then, but-set, but-widen}
-
--- none yet
-pub written_none : (start : ℕ) (value : ℕ → ℕ) (w : List ℕ) → Written start 0 value w w
-written_none start value w = record { but = but-refl start (start + 0) w; cells = below_none (λ i. get_or w (start + i) 0 ≡ value i) }
-
--- one cell more
-pub written-more : {start n : ℕ} {value : ℕ → ℕ} {w₀ w : List ℕ} (at : ℕ) → at ≡ start + n → at < length w →
-    Written start n value w₀ w → Written start (n + 1) value w₀ (set w at (value n))
-written-more {start} {n} {value} {w₀} {w} at here fits h =
-    let w' : List ℕ = set w at (value n) in
-    record {
-      but =
-          but-then (but-widen (omega arith) (omega arith) h.but)
-          (but-set start (start + (n + 1)) w at (value n) (omega arith) (omega arith));
-      cells =
-          below_more (λ i. get_or w' (start + i) 0 ≡ value i) n
-          (λ i l. get_or-set_other w at (start + i) (value n) 0 (omega arith) ∙ h.cells i l)
-          (rw (← here) (get_or-set_same w at (value n) 0 fits));
-    }
-
--- all of them
-pub written_all : {start i n : ℕ} {value : ℕ → ℕ} {w₀ w : List ℕ} → i ≤ n → n ≤ i → Written start i value w₀ w → Written start n value w₀ w
-written_all {start} {i} {n} {value} {w₀} {w} most least = subst (λ (k : ℕ). Written start k value w₀ w) (le_antisymm most least)
 
 -- where the stretch begins may be said otherwise
 pub written_from : {at start n : ℕ} {value : ℕ → ℕ} {w w' : List ℕ} → at ≡ start → Written at n value w w' → Written start n value w w'

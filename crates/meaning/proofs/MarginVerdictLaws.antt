@@ -4,7 +4,7 @@ use Prim.Native.Nat.{ℕ, zero, suc, ◌-◌, ◌≤◌, ◌<◌}
 use native.Mathlib.Omega.{arith}
 use mathlib.Core.Path.{◌≡◌, refl, sym, ap, ◌∙◌}
 use mathlib.Core.List.{List}
-use mathlib.Core.Bool.{Bool, true, false, not, ◌&&◌, true≢false}
+use mathlib.Core.Bool.{Bool, true, false, not, ◌&&◌, false≢true}
 use borrow.Author.Tests.{eqb-true, ltb-true, lt-ltb, leb-false, not-false}
 use lib.Dec.{ltb, leb, eqb}
 use lib.ListN.{length, get_or}
@@ -13,10 +13,12 @@ use Rattle.lists.proofs.TestLaws.{by-test, clash, false_of, neither-of}
 use Rattle.lists.proofs.EveryLaws.{every-from, every_some, some-from}
 use Rattle.lists.proofs.BelowLaws.{length-below, get_d-below}
 use Rattle.lists.proofs.FirstLaws.{first-of, first-place, first_some}
-use Rattle.meaning.specs.declared.Verdict.TheVariants.{Refused, Copied, Admitted}
+use Rattle.std.specs.Prelude.{Ok, Err, is_ok}
+use Rattle.meaning.specs.declared.Refusal.{Refusal}
+use Rattle.meaning.specs.declared.Refusal.TheVariants.{BadMargin}
 use Rattle.meaning.specs.Answers.{bad_entry, margin_verdict}
 use Rattle.meaning.specs.Start.{in_margin}
-use Rattle.meaning.proofs.VerdictOrder.{admits, refuses, copies, past}
+use Rattle.meaning.proofs.VerdictOrder.{past}
 
 module _ (v : ℕ) (margin : List ℕ) where
   -- some entry is bad, and p is the first one's number
@@ -29,35 +31,29 @@ module _ (v : ℕ) (margin : List ℕ) where
   -- ---- the verdict
 
   -- the first bad entry decides
-  pub entry-decides : {p : ℕ} → FirstBad p → margin_verdict v margin ≡ Refused 12 p
+  pub entry-decides : {p : ℕ} → FirstBad p → margin_verdict v margin ≡ Err (BadMargin p)
   unfolding margin_verdict
   entry-decides {p} f = rw (first_some (bad_entry v margin) 0 (below (length margin)) f, first-place (bad_entry v margin) 0 (below (length margin)) p f)
 
   -- and where there is none, the margin is admitted
-  pub margin-admitted : some_bad ≡ false → margin_verdict v margin ≡ Admitted
+  pub margin-admitted : some_bad ≡ false → margin_verdict v margin ≡ Ok tt
   unfolding margin_verdict
   margin-admitted none = rw none
 
   -- an admitted margin has no bad entry
-  pub margin_good : margin_verdict v margin ≡ Admitted → some_bad ≡ false
+  pub margin_good : margin_verdict v margin ≡ Ok tt → some_bad ≡ false
   unfolding margin_verdict
-  margin_good e = (past admits some_bad (Refused 12 (first_of (bad_entry v margin) (below (length margin)))) Admitted refl refl e).0
+  margin_good e = (past is_ok some_bad (Err (BadMargin (first_of (bad_entry v margin) (below (length margin))))) (Ok tt) refl refl e).0
 
   -- a refused one is refused by 12, with its first bad entry
-  pub margin-refused : {n p : ℕ} → margin_verdict v margin ≡ Refused n p → (n ≡ 12) × FirstBad p
+  pub margin-refused : {r : Refusal} → margin_verdict v margin ≡ Err r → (p : ℕ) × (r ≡ BadMargin p) × FirstBad p
   unfolding margin_verdict
-  margin-refused {n} {p} e =
+  margin-refused {r} e =
       by-test some_bad
       (λ t.
-      let same : Refused 12 (first_of (bad_entry v margin) (below (length margin))) ≡ Refused n p = rw t at e in
-      let place : first_of (bad_entry v margin) (below (length margin)) ≡ p = cc in
-      (cc, rw place at (first-of (bad_entry v margin) 0 (below (length margin)) t)))
-      (λ none. clash (ap refuses (rw none at e)) refl)
-
-  -- a margin never has a mesh copied
-  pub margin-not-copied : margin_verdict v margin ≡ Copied → ⊥
-  unfolding margin_verdict
-  margin-not-copied e = by-test some_bad (λ t. true≢false (sym (ap copies (rw t at e)))) (λ t. true≢false (sym (ap copies (rw t at e))))
+      let told : Err (BadMargin (first_of (bad_entry v margin) (below (length margin)))) ≡ Err r = rw t at e in
+      (first_of (bad_entry v margin) (below (length margin)), cc, first-of (bad_entry v margin) 0 (below (length margin)) t))
+      (λ none. absurd (false≢true (sym (ap is_ok (rw none at e)))))
 
   -- ---- the entries
 

@@ -1,5 +1,5 @@
 -- Document 01's arithmetic, as the rules that the walk goes by.
-use Rattle.std.specs.Prelude.{ℕ, ◌+◌, ◌-◌, ◌^◌, suc, Bool, not, ℤ, pos, negsuc, Float}
+use Rattle.std.specs.Prelude.{ℕ, ◌+◌, ◌-◌, ◌^◌, suc, Bool, not, ℤ, pos, negsuc, Float, Option}
 use Rattle.std.specs.Float.{binary32}
 use Rattle.std.specs.Float.Ieee.{mul, lt, of_bits}
 use Rattle.bits.specs.Order.{float_key}
@@ -8,7 +8,6 @@ use Rattle.geometry.specs.Points.{dot, norm, normal}
 use Rattle.geometry.specs.Constants.{nought}
 use Rattle.geometry.specs.Quadrics.{zero_quadric}
 use Rattle.placement.specs.declared.Kind.TheVariants.{Free}
-use Rattle.placement.specs.declared.Limit.{Limit}
 use Rattle.placement.specs.declared.pair.Vertex.{Vertex}
 use Rattle.placement.specs.Pairs.{pair_quadric, pair_place, pair_cost, eligible}
 use Rattle.walk.specs.Faces.{Rules}
@@ -45,7 +44,7 @@ unfoldable pub merged_vertex : Float → Vertex → Vertex → Vertex
 merged_vertex bound keep remove = record { point = pair_place bound keep remove; quadric = pair_quadric keep remove; kind = keep.kind }
 
 -- the rules for a length limit and a bound on a coordinate's size
-unfoldable pub rules_of : Limit → Float → Rules Vertex
+unfoldable pub rules_of : Option Float → Float → Rules Vertex
 unfolding squashed_points turned_points merged_vertex
 rules_of limit bound =
     record {

@@ -1,5 +1,5 @@
 -- The answer of a call and what comes out, for any input (document 01, "Answer numbers" and "Pairs, folds, ends"; document 02, wishes 2 to 4).
-use Rattle.std.specs.Prelude.{ℕ, List, [], ◌∷◌, Bool, true, false, ◌&&◌, cond, ltb, eqb, length, get_or, Float}
+use Rattle.std.specs.Prelude.{ℕ, List, [], ◌∷◌, Bool, true, false, ◌&&◌, cond, ltb, eqb, length, get_or, Float, Ok, Err}
 use Rattle.bits.specs.Cut.{target}
 use Rattle.placement.specs.declared.pair.Vertex.{Vertex}
 use Rattle.walk.specs.declared.Pair.{Pair}
@@ -10,10 +10,9 @@ use Rattle.walk.specs.Closings.{closings_of, none_closed}
 use Rattle.walk.specs.Output.{used, renumbered, numbers_of}
 use Rattle.meaning.specs.Start.{fixed_count, start_mesh}
 use Rattle.meaning.specs.Arithmetic.{rules_of}
-use Rattle.meaning.specs.declared.Verdict.{Verdict}
-use Rattle.meaning.specs.declared.Verdict.TheVariants.{Refused, Copied, Admitted}
+use Rattle.meaning.specs.declared.Task.TheVariants.{Copied, Admitted}
 use Rattle.meaning.specs.Input.{Input, points_in, faces_in, bound_in}
-use Rattle.meaning.specs.Answers.{verdict_of}
+use Rattle.meaning.specs.Answers.{number_of, place_of, Verdict, verdict_of}
 use Rattle.meaning.specs.declared.Answer.{Answer}
 
 -- ---- the walk of an admitted mesh
@@ -98,15 +97,15 @@ thinned_outcome i =
 
 -- the outcome of an input, by what the checks say of it
 unfoldable pub outcome_by : Verdict → Input → Outcome
-outcome_by (Refused number place) i = record { answer = refusal number place; points = []; faces = []; worked = false }
-outcome_by Copied i =
+outcome_by (Err why) i = record { answer = refusal (number_of why) (place_of why); points = []; faces = []; worked = false }
+outcome_by (Ok Copied) i =
     record {
       answer = record { number = 0; place = 0; points = points_in i; faces = faces_in i; folds = 0; closed = none_closed };
       points = i.points;
       faces = i.faces;
       worked = true;
     }
-outcome_by Admitted i =
+outcome_by (Ok Admitted) i =
     cond (stuck i)
     (record { answer = stuck_answer (fixed_in i) (closed_walked i); points = []; faces = []; worked = true })
     (thinned_outcome i)
@@ -119,9 +118,9 @@ outcome i = outcome_by (verdict_of i) i
 
 -- the folds of an input, by what the checks say of it: none where it isn't walked
 unfoldable pub folds_by : Verdict → Input → List Pair
-folds_by (Refused number place) i = []
-folds_by Copied i = []
-folds_by Admitted i = folds_walked i
+folds_by (Err why) i = []
+folds_by (Ok Copied) i = []
+folds_by (Ok Admitted) i = folds_walked i
 
 -- the folds of an input, in order
 unfoldable pub folds_of : Input → List Pair

@@ -1,15 +1,13 @@
--- Which inputs are refused, by number and place: the example square of document 01 and small changes of it, as one list with one proof by computation.
-use Rattle.std.specs.Prelude.{ℕ, ◌≡◌, refl, List, [], ◌∷◌, map, true, false, pos, negsuc, Float}
+-- Which inputs are refused, and why: the example square of document 01 and small changes of it, as one list with one proof by computation.
+use Rattle.std.specs.Prelude.{ℕ, ◌≡◌, refl, List, [], ◌∷◌, map, true, false, pos, negsuc, Float, Ok, Err, Option, Some, None}
 use Rattle.std.specs.Float.{binary32, nan, inf, fin}
 use Rattle.std.specs.Float.Ieee.{is_nan, lt, le, eq, neg, of_bits}
 use Rattle.lists.specs.Lists.{some, below, first_of}
-use Rattle.placement.specs.declared.Limit.{Limit}
-use Rattle.placement.specs.declared.Limit.TheVariants.{Unlimited, AtMost}
-use Rattle.meaning.specs.declared.Verdict.{Verdict}
-use Rattle.meaning.specs.declared.Verdict.TheVariants.{Refused, Copied, Admitted}
+use Rattle.meaning.specs.declared.Refusal.TheVariants.{ShortBuffer, BadRatio, BadLimit, BadCoordinate, PointOutside, PointTwice, BadMargin, UnknownUnit}
+use Rattle.meaning.specs.declared.Task.TheVariants.{Copied, Admitted}
 use Rattle.meaning.specs.Input.{Input}
 use Rattle.bits.specs.Cut.{zero_float, one_float}
-use Rattle.meaning.specs.Answers.{face_verdict, margin_verdict, contents_verdict, verdict_of}
+use Rattle.meaning.specs.Answers.{Verdict, face_verdict, margin_verdict, contents_verdict, verdict_of}
 
 -- 2.0
 abbrev two : Float
@@ -38,7 +36,7 @@ abbrev minus_zero : Float
 minus_zero = fin true 0 (pos 0)
 
 -- the square in a unit, with a margin, its last coordinate, its last two point numbers, its ratio, its limit and the room for f64
-abbrev measured : ℕ → List ℕ → Float → ℕ → ℕ → Float → Limit → ℕ → Input
+abbrev measured : ℕ → List ℕ → Float → ℕ → ℕ → Float → Option Float → ℕ → Input
 measured unit margin z b c ratio limit f64s =
     let o = zero_float in
     record {
@@ -50,67 +48,67 @@ measured unit margin z b c ratio limit f64s =
     }
 
 -- in millimetres
-abbrev held : List ℕ → Float → ℕ → ℕ → Float → Limit → ℕ → Input
+abbrev held : List ℕ → Float → ℕ → ℕ → Float → Option Float → ℕ → Input
 held = measured 1
 
 -- and without a margin
-abbrev square : Float → ℕ → ℕ → Float → Limit → ℕ → Input
+abbrev square : Float → ℕ → ℕ → Float → Option Float → ℕ → Input
 square = held []
 
 -- at ratio 0.5, without a limit: in a unit, with its last coordinate
 abbrev reaching : ℕ → Float → Input
-reaching unit z = measured unit [] z 0 4 half Unlimited 104
+reaching unit z = measured unit [] z 0 4 half None 104
 
 -- inputs, each with its verdict
 abbrev pub cases : List (Input × Verdict)
 cases =
-    (square zero_float 0 4 half Unlimited 104, Admitted)
+    (square zero_float 0 4 half None 104, Ok Admitted)
     -- at the bound, ratio 1, limit 0
-    ∷ (square most_millimetres 0 4 one_float (AtMost zero_float) 104, Admitted)
+    ∷ (square most_millimetres 0 4 one_float (Some zero_float) 104, Ok Admitted)
     -- one cell short; 3 comes before 5
-    ∷ (square zero_float 0 4 nan Unlimited 103, Refused 3 0)
+    ∷ (square zero_float 0 4 nan None 103, Err ShortBuffer)
     -- 5 comes before 6, and 6 before 7
-    ∷ (square zero_float 0 4 two (AtMost nan) 104, Refused 5 0)
-    ∷ (square nan 0 4 half (AtMost nan) 104, Refused 6 0)
+    ∷ (square zero_float 0 4 two (Some nan) 104, Err BadRatio)
+    ∷ (square nan 0 4 half (Some nan) 104, Err BadLimit)
     -- the next float above the bound; 7 comes before ratio zero
-    ∷ (square above_millimetres 0 4 zero_float Unlimited 104, Refused 7 14)
-    ∷ (square (inf true) 0 4 half Unlimited 104, Refused 7 14)
+    ∷ (square above_millimetres 0 4 zero_float None 104, Err (BadCoordinate 14))
+    ∷ (square (inf true) 0 4 half None 104, Err (BadCoordinate 14))
     -- faces unchecked at ratio -0.0
-    ∷ (square zero_float 5 5 minus_zero Unlimited 104, Copied)
+    ∷ (square zero_float 5 5 minus_zero None 104, Ok Copied)
     -- 8 comes before 9 in one face
-    ∷ (square zero_float 5 5 half Unlimited 104, Refused 8 3)
-    ∷ (square zero_float 3 4 half Unlimited 104, Refused 9 3)
+    ∷ (square zero_float 5 5 half None 104, Err (PointOutside 3))
+    ∷ (square zero_float 3 4 half None 104, Err (PointTwice 3))
     -- a margin of two points, and of all five
-    ∷ (held (1 ∷ 4 ∷ []) zero_float 0 4 half Unlimited 104, Admitted)
-    ∷ (held (0 ∷ 1 ∷ 2 ∷ 3 ∷ 4 ∷ []) zero_float 0 4 half Unlimited 104, Admitted)
+    ∷ (held (1 ∷ 4 ∷ []) zero_float 0 4 half None 104, Ok Admitted)
+    ∷ (held (0 ∷ 1 ∷ 2 ∷ 3 ∷ 4 ∷ []) zero_float 0 4 half None 104, Ok Admitted)
     -- an entry out of range, two that are equal, two that descend; the first bad entry counts
-    ∷ (held (5 ∷ []) zero_float 0 4 half Unlimited 104, Refused 12 0)
-    ∷ (held (0 ∷ 2 ∷ 2 ∷ 9 ∷ []) zero_float 0 4 half Unlimited 104, Refused 12 2)
-    ∷ (held (0 ∷ 3 ∷ 1 ∷ []) zero_float 0 4 half Unlimited 104, Refused 12 2)
-    ∷ (held (1 ∷ 2 ∷ 4294967295 ∷ []) zero_float 0 4 half Unlimited 104, Refused 12 2)
+    ∷ (held (5 ∷ []) zero_float 0 4 half None 104, Err (BadMargin 0))
+    ∷ (held (0 ∷ 2 ∷ 2 ∷ 9 ∷ []) zero_float 0 4 half None 104, Err (BadMargin 2))
+    ∷ (held (0 ∷ 3 ∷ 1 ∷ []) zero_float 0 4 half None 104, Err (BadMargin 2))
+    ∷ (held (1 ∷ 2 ∷ 4294967295 ∷ []) zero_float 0 4 half None 104, Err (BadMargin 2))
     -- 9 comes before 12, and ratio zero too
-    ∷ (held (5 ∷ []) zero_float 3 4 half Unlimited 104, Refused 9 3)
-    ∷ (held (5 ∷ []) zero_float 0 4 minus_zero Unlimited 104, Copied)
+    ∷ (held (5 ∷ []) zero_float 3 4 half None 104, Err (PointTwice 3))
+    ∷ (held (5 ∷ []) zero_float 0 4 minus_zero None 104, Ok Copied)
     -- 1,024 millimetres and -1,024, and the next float beyond each
-    ∷ (reaching 1 most_millimetres, Admitted)
-    ∷ (reaching 1 above_millimetres, Refused 7 14)
-    ∷ (reaching 1 (neg most_millimetres), Admitted)
-    ∷ (reaching 1 (neg above_millimetres), Refused 7 14)
+    ∷ (reaching 1 most_millimetres, Ok Admitted)
+    ∷ (reaching 1 above_millimetres, Err (BadCoordinate 14))
+    ∷ (reaching 1 (neg most_millimetres), Ok Admitted)
+    ∷ (reaching 1 (neg above_millimetres), Err (BadCoordinate 14))
     -- micrometres: more than 1,024, then 1,048,576 and -1,048,576, and the next float beyond each
-    ∷ (reaching 2 above_millimetres, Admitted)
-    ∷ (reaching 2 most_micrometres, Admitted)
-    ∷ (reaching 2 above_micrometres, Refused 7 14)
-    ∷ (reaching 2 (neg most_micrometres), Admitted)
-    ∷ (reaching 2 (neg above_micrometres), Refused 7 14)
+    ∷ (reaching 2 above_millimetres, Ok Admitted)
+    ∷ (reaching 2 most_micrometres, Ok Admitted)
+    ∷ (reaching 2 above_micrometres, Err (BadCoordinate 14))
+    ∷ (reaching 2 (neg most_micrometres), Ok Admitted)
+    ∷ (reaching 2 (neg above_micrometres), Err (BadCoordinate 14))
     -- any other unit, of which no higher bit is dropped
-    ∷ (reaching 0 zero_float, Refused 24 0)
-    ∷ (reaching 3 zero_float, Refused 24 0)
-    ∷ (reaching 65537 zero_float, Refused 24 0)
-    ∷ (reaching 4294967295 zero_float, Refused 24 0)
+    ∷ (reaching 0 zero_float, Err UnknownUnit)
+    ∷ (reaching 3 zero_float, Err UnknownUnit)
+    ∷ (reaching 65537 zero_float, Err UnknownUnit)
+    ∷ (reaching 4294967295 zero_float, Err UnknownUnit)
     -- 6 comes before 24, and 24 before 7 and before ratio zero
-    ∷ (measured 3 [] zero_float 0 4 half (AtMost nan) 104, Refused 6 0)
-    ∷ (reaching 3 nan, Refused 24 0)
-    ∷ (measured 0 [] zero_float 0 4 minus_zero Unlimited 104, Refused 24 0)
+    ∷ (measured 3 [] zero_float 0 4 half (Some nan) 104, Err BadLimit)
+    ∷ (reaching 3 nan, Err UnknownUnit)
+    ∷ (measured 0 [] zero_float 0 4 minus_zero None 104, Err UnknownUnit)
     ∷ []
 
 -- the verdicts come out

@@ -1,7 +1,9 @@
 // Document 01 as definitions: what a call is given, what it answers and what it leaves. In code it has only the values that go in and out.
 #![tactic(auto)]
 
-use placement::Limit;
+ghost use Rattle.std.specs.Prelude.{◌≡◌};
+ghost use Rattle.meaning.specs.Answers.{number_of, place_of};
+
 use walk::Closings;
 
 // How a mesh is thinned: by which part, with border points held or not, and up to which length of a pair; and in which unit it is, by a
@@ -11,7 +13,7 @@ pub struct Options {
     pub unit: u32,
     pub ratio: f32,
     pub preserve: bool,
-    pub limit: Limit,
+    pub limit: Option<f32>,
 }
 
 // How many cells each lent buffer has: the two outputs, and the work memory of each type.
@@ -24,10 +26,70 @@ pub struct Rooms {
     pub f64s: usize,
 }
 
-// What an input is: refused by number and place, copied as it is (ratio zero), or admitted to the walk.
-#[derive(Clone, Copy)]
-pub enum Verdict {
-    Refused(u32, u32),
+// Why an input is refused, in the order of the numbers that answer it. A place is the number of a coordinate, a face or an entry of the margin.
+#[derive(Clone, Copy, PartialEq, Eq, Debug)]
+pub enum Refusal {
+    UnevenList,
+    TooLarge,
+    ShortBuffer,
+    EmptyMesh,
+    BadRatio,
+    BadLimit,
+    BadCoordinate(u32),
+    PointOutside(u32),
+    PointTwice(u32),
+    BadMargin(u32),
+    UnknownUnit,
+}
+
+impl Refusal {
+    // The number that answers it.
+    pub fn number(self) -> u32
+        ensures { result ≡ number_of self }
+    {
+        match self {
+            Refusal::UnevenList => 1,
+            Refusal::TooLarge => 2,
+            Refusal::ShortBuffer => 3,
+            Refusal::EmptyMesh => 4,
+            Refusal::BadRatio => 5,
+            Refusal::BadLimit => 6,
+            Refusal::BadCoordinate(_) => 7,
+            Refusal::PointOutside(_) => 8,
+            Refusal::PointTwice(_) => 9,
+            Refusal::BadMargin(_) => 12,
+            Refusal::UnknownUnit => 24,
+        }
+    }
+
+    // Its place, which is 0 where it has none.
+    pub fn place(self) -> u32
+        ensures { result ≡ place_of self }
+    {
+        match self {
+            Refusal::BadCoordinate(place)
+            | Refusal::PointOutside(place)
+            | Refusal::PointTwice(place)
+            | Refusal::BadMargin(place) => place,
+            _ => 0,
+        }
+    }
+}
+
+// A number that is no unit's is refused by 24.
+impl From<units::UnknownUnit> for Refusal {
+    ghost use Rattle.meaning.specs.declared.Refusal.TheVariants.{UnknownUnit};
+
+    ghost from_gives = { λ unknown refusal. refusal ≡ UnknownUnit };
+
+    fn from(_unknown: units::UnknownUnit) -> Refusal {
+        Self::UnknownUnit
+    }
+}
+
+// What is done with an input that is not refused: it is copied as it is (ratio zero), or admitted to the walk.
+#[derive(Clone, Copy, PartialEq, Eq, Debug)]
+pub enum Task {
     Copied,
     Admitted,
 }

@@ -1,6 +1,6 @@
 // The cells of the memory, each by its name: read, and written.
 ghost use Rattle.std.specs.Prelude.{◌≡◌, ◌+◌, ◌*◌, ◌≤◌, ◌<◌, length, get_or, set};
-ghost use Rattle.memory.specs.Memory.{corner, live, next, first, kind, mark, near_at};
+ghost use Rattle.memory.specs.Memory.{corner, live, lives, next, first, kind, mark, near_at};
 ghost use Rattle.walk.specs.Faces.{face_at};
 ghost use Rattle.memory.specs.Layout.{firsts_from, kinds_from, lives_from, marks_from, nexts_from, near_from, around_from};
 
@@ -14,12 +14,20 @@ pub fn corner_at(w: &[u32], c: usize) -> u32
     w[c]
 }
 
-// Whether the face in a slot is there: 1 while it is.
+// What says whether the face in a slot is there: 1 while it is.
 pub fn live_at(w: &[u32], f: usize, k: usize) -> u32
     requires { lives_from f + k < length w.now }
     ensures { result ≡ live f w.now k }
 {
     w[3 * f + k]
+}
+
+// Whether the face in a slot is there.
+pub fn is_live(w: &[u32], f: usize, k: usize) -> bool
+    requires { lives_from f + k < length w.now }
+    ensures { result ≡ lives f w.now k }
+{
+    live_at(w, f, k) == 1
 }
 
 // The link from a corner to the next one at the same point.

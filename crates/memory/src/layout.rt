@@ -1,6 +1,6 @@
 // Where the parts of the work memory begin that are handed on as a stretch of cells, as the table of specs/Layout.antt has it.
 ghost use Rattle.std.specs.Prelude.{◌≡◌, ◌^◌, ◌<◌};
-ghost use Rattle.memory.specs.Layout.{lives_from, firsts_from, stamps_from, near_from, far_from, folds_from};
+ghost use Rattle.memory.specs.Layout.{lives_from, firsts_from, stamps_from, near_from, far_from, around_from, folds_from};
 
 // Whether each face is there.
 pub fn lives_from(f: usize) -> usize
@@ -40,6 +40,14 @@ pub fn far_from(v: usize, f: usize) -> usize
     ensures { result ≡ far_from v f }
 {
     20 * f + 4 * v
+}
+
+// The points around a point.
+pub fn around_from(v: usize, f: usize) -> usize
+    requires { around_from v f < 2 ^ 64 }
+    ensures { result ≡ around_from v f }
+{
+    21 * f + 4 * v
 }
 
 // The folds that are written down.

@@ -6,6 +6,7 @@ ghost use Rattle.memory.specs.Points.{quadric_at, vertex_with, vertex_at, with_p
 ghost use Rattle.memory.specs.Layout.{kinds_from};
 
 use geometry::{Point, Quadric};
+use placement::Kind;
 use placement::pair::Vertex;
 
 // A point's place.
@@ -49,7 +50,7 @@ pub fn vertex_with(w: &[u32], p: &[f32], v: usize, f: usize, x: usize, quadric: 
     Vertex {
         point: point_at(p, x),
         quadric,
-        kind: placement::kind_of(crate::cells::kind_at(w, v, f, x)),
+        kind: Kind::from(crate::cells::kind_at(w, v, f, x)),
     }
 }
 

@@ -7,13 +7,12 @@ use native.Mathlib.Omega.{arith}
 use mathlib.Core.Path.{◌≡◌, refl, sym, ap, ◌∙◌}
 use mathlib.Core.Logic.{◌≢◌}
 use mathlib.Core.List.{List, [], ◌∷◌}
-use mathlib.Core.Bool.{Bool, ◌&&◌, cond}
+use mathlib.Core.Bool.{Bool, true, false, ◌&&◌, cond}
 use lib.Dec.{eqb}
 use lib.ListN.{length, get_or, set}
 use lib.Seq.{get_or-set_same, get_or-set_other}
-use borrow.Author.Tests.{eq-eqb, ne_eqb}
 use Rattle.lists.specs.Lists.{sum, below, stretch}
-use Rattle.memory.specs.Memory.{corner, next, first, live, lives, live_at}
+use Rattle.memory.specs.Memory.{corner, next, first, lives, live_at}
 use Rattle.lists.specs.Frames.{But}
 use Rattle.mesh.specs.Clauses.Chains.{Linked, Tidy}
 use Rattle.mesh.specs.Clauses.Around.{Collected}
@@ -128,25 +127,25 @@ module _ {v f : ℕ} {w₀ : List ℕ} {x base : ℕ} {w : List ℕ} {n link : �
           linked-steps f w₀ (3 * f) onward next-ahead.rest (omega (arith, shorter)) onward-linked,
         )
 
-    module _ {flag : ℕ} (flag_is : flag ≡ live f w ((link - 1) / 3)) where
-      flag-was : flag ≡ live f w₀ ((link - 1) / 3)
-      flag-was = flag_is ∙ h.but.under (lives_from f + (link - 1) / 3) (omega (arith, inside))
+    module _ {flag : Bool} (flag_is : flag ≡ lives f w ((link - 1) / 3)) where
+      flag-was : flag ≡ lives f w₀ ((link - 1) / 3)
+      flag-was = flag_is ∙ ap (λ (n : ℕ). eqb n 1) (h.but.under (lives_from f + (link - 1) / 3) (omega (arith, inside)))
 
       -- a dead face is passed over
-      pub passed : flag ≢ 1 → Walk v f w₀ x base w n onward
+      pub passed : flag ≡ false → Walk v f w₀ x base w n onward
       passed dead = record {
         left = next-ahead.rest;
         linked = onward-linked;
         short = omega (arith, shorter);
         but = h.but;
-        sums = λ g. omega (arith, rw (ne_eqb _ _ (λ q. dead (flag-was ∙ q))) at (sums-ahead g));
+        sums = λ g. omega (arith, rw (sym flag-was ∙ dead) at (sums-ahead g));
       }
 
-      module _ (alive : flag ≡ 1) where
+      module _ (alive : flag ≡ true) where
         sums-alive : (g : ℕ → ℕ) →
             sum g (stretch w base n) + (g ((link - 1) / 3) + sum (λ c. cond (lives f w₀ (c / 3)) (g (c / 3)) 0) next-ahead.rest)
             ≡ sum (λ k. cond (live_at f w₀ x k) (g k) 0) (below f)
-        sums-alive g = rw (eq-eqb _ _ (sym flag-was ∙ alive)) at (sums-ahead g)
+        sums-alive g = rw (sym flag-was ∙ alive) at (sums-ahead g)
 
         -- there is room for a live one
         pub some-room : n < f

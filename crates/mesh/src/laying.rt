@@ -17,9 +17,7 @@ fn join(w: &mut [u32], v: usize, f: usize)
     requires fact_3 { ((x : ℕ) → x < v → first f w.old x ≡ 0) }
     ensures { Joined v f w.old w.new }
 {
-    let mut c = 3 * f;
-    while 0 < c {
-        c -= 1;
+    for c in (0..3 * f).rev() {
         let x = corner_at(w, c) as usize;
         push_corner(w, f, c, x);
     }
@@ -33,7 +31,7 @@ pub fn lay_faces(faces: &[u32], w: &mut [u32], v: usize, f: usize)
     requires fact_3 { every (proper v) (faces_of f faces.now) ≡ true }
     ensures { Laid v f faces.now w.old w.new }
 {
-    lists::copy_u32(faces, w);
+    lists::copy(faces, w);
     lists::fill(w, memory::lives_from(f), f, 1);
     lists::fill(w, memory::firsts_from(f), 3 * v, 0);
     join(w, v, f);

@@ -5,7 +5,7 @@ ghost use Rattle.mesh.specs.Clauses.Chains.{Tidy};
 ghost use Rattle.mesh.specs.Clauses.Around.{Collected};
 ghost use Rattle.memory.specs.Layout.{firsts_from, near_from, nexts_from};
 
-use memory::{first_at, live_at, next_at, set_first, set_next};
+use memory::{first_at, is_live, next_at, set_first, set_next};
 
 // Puts a corner at the head of a point's chain.
 pub fn push_corner(w: &mut [u32], f: usize, c: usize, x: usize)
@@ -33,7 +33,7 @@ pub fn collect(w: &mut [u32], v: usize, f: usize, x: usize, base: usize) -> usiz
     while link != 0 {
         let face = (link - 1) / 3;
         link = next_at(w, f, link - 1) as usize;
-        if live_at(w, f, face) == 1 {
+        if is_live(w, f, face) {
             w[base + n] = face as u32;
             n += 1;
         }

@@ -18,7 +18,7 @@ pub fn lay_points(points: &[f32], p: &mut [f32], v: usize)
     requires fact_2 { 3 * v ≤ length p.old }
     ensures { p.new ≡ with_points v points.now p.old }
 {
-    lists::copy_f32(points, p);
+    lists::copy(points, p);
 }
 
 // Every quadric starts at zero.

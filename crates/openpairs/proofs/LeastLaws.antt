@@ -10,8 +10,8 @@ use lib.Dec.{ltb}
 use lib.Ieee.{Float}
 use borrow.Author.Count.{below_more}
 use borrow.Author.Tests.{ltb-true, ltb-false}
+use Rattle.std.specs.Prelude.{Option}
 use Rattle.geometry.specs.declared.Point.{Point}
-use Rattle.placement.specs.declared.Limit.{Limit}
 use Rattle.walk.specs.Pairs.{order}
 use Rattle.walk.proofs.SamePairs.{pair_path}
 use Rattle.memory.specs.Points.{mesh_of}
@@ -33,7 +33,7 @@ module _ (v f : ℕ) (w : List ℕ) (p q : List Float) (bound : Float) (i : ℕ)
       λ t. record { at = i; cost = same-cost t; keep = e t; remove = d t }
 
   -- its rank is its place in the walk's order
-  pub order-rank : (limit : Limit) → (pair_at v f w i).keep < v → (pair_at v f w i).remove < v →
+  pub order-rank : (limit : Option Float) → (pair_at v f w i).keep < v → (pair_at v f w i).remove < v →
       order (rules_of limit bound) (mesh_of v f w p q) (pair_at v f w i) ≡ rank (ranked_at v f w p q bound i)
   unfolding order rules_of rank ranked_at
   order-rank limit k r =
@@ -86,7 +86,7 @@ module _ {v f : ℕ} {w : List ℕ} {p q : List Float} {bound : Float} where
       (rw (ap (λ (x : Ranked). x.keep) lead.same) here.0, rw (ap (λ (x : Ranked). x.remove) lead.same) here.1)
 
   -- the least of all, as the walk has it
-  pub leading-least : {r : Ranked} {i n : ℕ} {place : Point} {limit : Limit} → i ≡ n → Named v f w n → Leading v f w p q bound r i →
+  pub leading-least : {r : Ranked} {i n : ℕ} {place : Point} {limit : Option Float} → i ≡ n → Named v f w n → Leading v f w p q bound r i →
       place ≡ place_at v f w p q bound r.keep r.remove →
       LeastAt v f w p q n limit bound (record { at = r.at; fold = record { keep = r.keep; remove = r.remove; place = place } })
   unfolding ranked_at

@@ -1,21 +1,24 @@
 -- The order of pairs: to compare the costs or their keys, then keep, then remove is to compare the one number that they make.
 -- Assumes nothing.
 use Prim.Native.Nat.{ℕ, ◌+◌, ◌*◌, ◌^◌, ◌<◌}
-use native.Mathlib.Nat.{mul-le-mul_right, suc-mul, le_antisymm}
+use native.Mathlib.Nat.{mul-le-mul_right, suc-mul, le_of_lt}
 use native.Mathlib.Omega.{arith}
 use mathlib.Core.Path.{◌≡◌, refl, sym, ap, subst, ◌∙◌}
-use mathlib.Core.Bool.{Bool, true, false}
+use mathlib.Core.Bool.{true}
 use lib.IntN.{ℤ, pos, negsuc}
 use lib.Dec.{T, ltb}
-use lib.Signed.{lt_z, mag}
+use lib.Signed.{lt_z, mag, ◌<ℤ◌}
 use lib.Ieee.{Float, binary64, fits, lt, to_bits}
-use lib.Ieee.Bits.{to_bits-lt}
+use lib.Ieee.Bits.{to_bits-lt, is_true}
+use borrow.Author.Tests.{ltb-true, ltb-false, lt-ltb, le-ltb}
 use mir.Syntax.{w64}
 use mir.Val.{to_z, of_z}
-use borrow.Author.Tests.{ltb-true, ltb-false, lt-ltb, le-ltb}
+use Rattle.std.proofs.Common.{to_z-of_z}
 use Rattle.bits.specs.Order.{float_key, order_key}
 use Rattle.bits.proofs.OrderLaws.{lt_order}
-use Rattle.placement.proofs.PlacementLaws.{keys-compared}
+use Rattle.std.specs.Prelude.{Some}
+use Rattle.std.specs.Ordering.{is_lt, is_some_and, partial_ordering_then, int_cmp, nat_cmp}
+use Rattle.std.proofs.lemmas.Cmp.{by_ranked, ranked, int_ranked}
 use Rattle.lists.proofs.TestLaws.{by-test}
 use Rattle.meaning.specs.Arithmetic.{from_lowest}
 use Rattle.openpairs.specs.declared.pairs.Ranked.{Ranked}
@@ -58,6 +61,11 @@ key-small x fit =
     (λ e. rw e (ltb-true b (2 ^ 63) e))
     (λ e. rw e (omega (arith, ltb-false b (2 ^ 63) e)))
 
+-- a key stays itself in the bits that a machine holds it in
+pub key-held : {r : Ranked} → Sized r → {x : ℤ} → x ≡ float_key r.cost → to_z w64 (of_z w64 x) ≡ float_key r.cost
+key-held {r} sized e =
+    ap (λ (z : ℤ). to_z w64 (of_z w64 z)) e ∙ to_z-of_z {w = w64} (record { sfits = key-small r.cost sized.cost_fits })
+
 -- the number that stands for a cost
 abbrev pub by_cost : Ranked → ℕ
 by_cost r = from_lowest (float_key r.cost)
@@ -66,12 +74,9 @@ module _ {a b : Ranked} (a-sized : Sized a) (b-sized : Sized b) where
   keys-order : lt_z (float_key a.cost) (float_key b.cost) ≡ ltb (by_cost a) (by_cost b)
   keys-order = key-order (float_key a.cost) (float_key b.cost) (key-small a.cost a-sized.cost_fits) (key-small b.cost b-sized.cost_fits)
 
-  -- the test of two keys, on the bits that the machine holds them in
-  pub key-tested : {x y : ℤ} {t : Bool} → x ≡ float_key a.cost → y ≡ float_key b.cost → lt_z (to_z w64 (of_z w64 x)) (to_z w64 (of_z w64 y)) ≡ t → ltb (by_cost a) (by_cost b) ≡ t
-  key-tested {x} {y} {t} same-x same-y e =
-      sym keys-order
-      ∙ keys-compared (float_key a.cost) (float_key b.cost) (key-small a.cost a-sized.cost_fits) (key-small b.cost b-sized.cost_fits)
-      (rw (← same-x, ← same-y) e)
+  -- the lower key has the lower number
+  lower : {x y : ℤ} → x ≡ float_key a.cost → y ≡ float_key b.cost → x <ℤ y → ltb (by_cost a) (by_cost b) ≡ true
+  lower same-x same-y less = sym keys-order ∙ rw (← same-x, ← same-y) (is_true _ less.lt)
 
   -- the lower number for the cost comes first
   pub first-by-key : ltb (by_cost a) (by_cost b) ≡ true → rank a < rank b
@@ -98,6 +103,25 @@ module _ {a b : Ranked} (a-sized : Sized a) (b-sized : Sized b) where
         ltb-add ((by_cost a * 2 ^ 32 + a.keep) * 2 ^ 32) a.remove b.remove
         ∙ ap (λ (k : ℕ). ltb (rank a) (k * 2 ^ 32 + b.remove)) same
 
--- neither key is below the other: they are the same
-pub same_keys : (a b : Ranked) → ltb (by_cost a) (by_cost b) ≡ false → ltb (by_cost b) (by_cost a) ≡ false → by_cost a ≡ by_cost b
-same_keys a b ab ba = le_antisymm (ltb-false (by_cost b) (by_cost a) ba) (ltb-false (by_cost a) (by_cost b) ab)
+-- to compare the three numbers, one after another, is to compare the one
+pub by-numbers : {a b : Ranked} → Sized a → Sized b → {x y : ℤ} → x ≡ float_key a.cost → y ≡ float_key b.cost →
+    is_some_and is_lt (partial_ordering_then (partial_ordering_then (Some (int_cmp x y)) (Some (nat_cmp a.keep b.keep))) (Some (nat_cmp a.remove b.remove))) ≡ ltb (rank a) (rank b)
+by-numbers {a} {b} a-sized b-sized {x} {y} same-x same-y =
+    by_ranked (x <ℤ y) (x ≡ y) (y <ℤ x) (int_cmp x y) (int_ranked x y _ refl)
+    (λ o less. rw o (sym (lt-ltb _ _ (first-by-key a-sized b-sized (lower a-sized b-sized same-x same-y less)))))
+    (λ o same.
+    let same_key : by_cost a ≡ by_cost b = ap from_lowest (sym same-x ∙ same ∙ same-y) in
+    rw o
+    (by_ranked (a.keep < b.keep) (a.keep ≡ b.keep) (b.keep < a.keep) (nat_cmp a.keep b.keep) (ranked a.keep b.keep _ refl)
+    (λ o less. rw o (sym (lt-ltb _ _ (first-by-keep a-sized b-sized same_key less))))
+    (λ o same. rw o (tested ∙ first-by-remove a-sized b-sized same_key same))
+    (λ o more. rw o (sym (le-ltb _ _ (le_of_lt (first-by-keep b-sized a-sized (sym same_key) more)))))))
+    (λ o more. rw o (sym (le-ltb _ _ (le_of_lt (first-by-key b-sized a-sized (lower b-sized a-sized same-y same-x more))))))
+  where
+    -- the test of the last two
+    tested : is_some_and is_lt (Some (nat_cmp a.remove b.remove)) ≡ ltb a.remove b.remove
+    tested =
+        by_ranked (a.remove < b.remove) (a.remove ≡ b.remove) (b.remove < a.remove) (nat_cmp a.remove b.remove) (ranked a.remove b.remove _ refl)
+        (λ o less. rw o (sym (lt-ltb _ _ less)))
+        (λ o same. rw o (sym (le-ltb _ _ (omega (arith, same)))))
+        (λ o more. rw o (sym (le-ltb _ _ (le_of_lt more))))

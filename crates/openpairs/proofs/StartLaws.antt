@@ -9,7 +9,7 @@ use mathlib.Core.List.{List}
 use mathlib.Core.Bool.{true}
 use lib.ListN.{length}
 use lib.Ieee.{Float}
-use Rattle.placement.specs.declared.Limit.{Limit}
+use Rattle.std.specs.Prelude.{Option}
 use Rattle.placement.specs.declared.pair.Vertex.{Vertex}
 use Rattle.walk.specs.declared.Pair.{Pair}
 use Rattle.lists.specs.Lists.{sum, every, below}
@@ -54,11 +54,11 @@ rising-sum rules m g =
     ∙ sym (started-sum rules m g)
 
 -- the pairs of the points below x are open
-pub record Starting (v f : ℕ) (w₀ : List ℕ) (p q : List Float) (limit : Limit) (bound : Float) (w : List ℕ) (n x : ℕ) : Type 0 where
+pub record Starting (v f : ℕ) (w₀ : List ℕ) (p q : List Float) (limit : Option Float) (bound : Float) (w : List ℕ) (n x : ℕ) : Type 0 where
   pub but : But (keeps_from v f) (folds_from v f) w₀ w
   pub sums : (g : Pair → ℕ) → sum g (open_pairs v f w n) ≡ sum (λ y. sum g (rising_from (rules_of limit bound) (mesh_of v f w₀ p q) y)) (below x)
 
-module _ {v f : ℕ} {w₀ : List ℕ} {p q : List Float} {limit : Limit} {bound : Float} where
+module _ {v f : ℕ} {w₀ : List ℕ} {p q : List Float} {limit : Option Float} {bound : Float} where
   pub starting-none : Starting v f w₀ p q limit bound w₀ 0 0
   unfolding sum below
   starting-none = record { but = but-refl _ _ w₀; sums = λ g. rw (open_none v f w₀) }

@@ -9,7 +9,7 @@ use mathlib.Core.List.{List}
 use mathlib.Core.Bool.{Bool, true, false, cond}
 use lib.ListN.{get_or}
 use lib.Ieee.{Float}
-use Rattle.placement.specs.declared.Limit.{Limit}
+use Rattle.std.specs.Prelude.{Option}
 use Rattle.walk.specs.declared.Pair.{Pair}
 use Rattle.lists.specs.Lists.{sum, below}
 use Rattle.walk.specs.Pairs.{pair_of}
@@ -25,7 +25,7 @@ use Rattle.openpairs.proofs.OpenLaws.{open-length, pushed, pushed-but, pushed-su
 use Rattle.openpairs.specs.Clauses.Waiting.{fits, waiting, PairsReady}
 use Rattle.memory.specs.Layout.{around_from, keeps_from, kinds_from, marks_from, near_from}
 
-module _ (v f : ℕ) (w : List ℕ) (p q : List Float) (limit : Limit) (bound : Float) (x : ℕ) where
+module _ (v f : ℕ) (w : List ℕ) (p q : List Float) (limit : Option Float) (bound : Float) (x : ℕ) where
   -- ---- the pairs that wait, as a sum over the listed points and over their places
 
   -- what the point y adds to it
@@ -56,7 +56,7 @@ module _ (v f : ℕ) (w : List ℕ) (p q : List Float) (limit : Limit) (bound : 
       rw (waiting-places m (λ r. 1), waiting-places n (λ r. 1)) (sum-partial (waits_at (λ r. 1)) m n l)
 
 -- a pair is eligible or not by what its points carry
-pub fits-but : (v f : ℕ) {lo hi : ℕ} {w w' : List ℕ} (p q : List Float) (limit : Limit) (bound : Float) (x y : ℕ) → But lo hi w w' → marks_from v f ≤ lo →
+pub fits-but : (v f : ℕ) {lo hi : ℕ} {w w' : List ℕ} (p q : List Float) (limit : Option Float) (bound : Float) (x y : ℕ) → But lo hi w w' → marks_from v f ≤ lo →
     x < v → y < v → fits v f w' p q limit bound x y ≡ fits v f w p q limit bound x y
 unfolding fits
 fits-but v f p q limit bound x y but above x-in y-in =
@@ -65,11 +65,11 @@ fits-but v f p q limit bound x y but above x-in y-in =
 -- ---- one point after another
 
 -- the pairs of the first i listed points are open, and the list is as it was
-pub record Opening (v f : ℕ) (w₀ : List ℕ) (p q : List Float) (limit : Limit) (bound : Float) (x n : ℕ) (w : List ℕ) (now-open i : ℕ) : Type 0 where
+pub record Opening (v f : ℕ) (w₀ : List ℕ) (p q : List Float) (limit : Option Float) (bound : Float) (x n : ℕ) (w : List ℕ) (now-open i : ℕ) : Type 0 where
   pub but : But (keeps_from v f) (near_from v f) w₀ w
   pub sums : (g : Pair → ℕ) → sum g (open_pairs v f w now-open) ≡ sum g (open_pairs v f w₀ n) + sum g (waiting v f w₀ p q limit bound x i)
 
-module _ {v f : ℕ} {w₀ : List ℕ} {p q : List Float} {limit : Limit} {bound : Float} {x n : ℕ} where
+module _ {v f : ℕ} {w₀ : List ℕ} {p q : List Float} {limit : Option Float} {bound : Float} {x n : ℕ} where
   pub opening-none : Opening v f w₀ p q limit bound x n w₀ n 0
   opening-none = record { but = but-refl _ _ w₀; sums = λ g. omega (arith, waiting_none v f w₀ p q limit bound x g) }
 

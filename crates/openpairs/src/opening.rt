@@ -9,12 +9,14 @@ ghost use Rattle.mesh.specs.Clauses.Chains.{Tidy};
 ghost use Rattle.memory.specs.Points.{mesh_of};
 ghost use Rattle.meaning.specs.Arithmetic.{rules_of};
 ghost use Rattle.openpairs.specs.Clauses.Changes.{Added};
-ghost use Rattle.openpairs.specs.Clauses.Edges.{rising_from, opened_around};
+ghost use Rattle.openpairs.specs.Clauses.Edges.{opened_around};
 ghost use Rattle.openpairs.specs.Clauses.Waiting.{fits, waiting, PairsReady};
 
-use memory::{set_pair, vertex_at};
+use crate::pairs::ends_at;
+use memory::set_pair;
 use placement::Bounds;
 use placement::pair::pair_eligible;
+use ring::Neighbours;
 
 // Whether x with y is eligible.
 fn is_eligible(
@@ -27,15 +29,13 @@ fn is_eligible(
     y: u32,
     bounds: Bounds,
 ) -> bool
-    requires fact_1 { Room v f w.now }
-    requires fact_2 { 3 * v ≤ length p.now }
-    requires fact_3 { 10 * v ≤ length q.now }
-    requires fact_4 { x < v }
-    requires fact_5 { y < v }
+    requires room { Room v f w.now }
+    requires points_long { 3 * v ≤ length p.now }
+    requires quadrics_long { 10 * v ≤ length q.now }
+    requires named { (x < v) × (y < v) }
     ensures { result ≡ fits v f w.now p.now q.now bounds.limit bounds.size x y }
 {
-    let stays = vertex_at(w, p, q, v, f, x as usize);
-    let goes = vertex_at(w, p, q, v, f, y as usize);
+    let (stays, goes) = ends_at(w, p, q, v, f, x, y);
     let limit = bounds.limit;
     pair_eligible(stays, goes, limit, bounds.size)
 }
@@ -56,10 +56,8 @@ fn open_listed(
     ensures { Added v f w.old n (waiting v f w.old p.now q.now bounds.limit bounds.size x count) w.new result }
 {
     let mut now_open = n;
-    let mut i = 0;
-    while i < count {
+    for i in 0..count {
         let y = memory::around_at(w, v, f, i);
-        i += 1;
         if is_eligible(w, p, q, v, f, x, y, bounds) {
             set_pair(w, v, f, now_open, x, y);
             now_open += 1;
@@ -68,7 +66,7 @@ fn open_listed(
     now_open
 }
 
-// Opens the pairs around x that are asked for, each once. Says how many pairs are open.
+// Opens the pairs around x, each once: at the start along the face edges that rise from it, after a fold with every neighbour. Says how many pairs are open.
 fn open_around(
     w: &mut [u32],
     p: &[f32],
@@ -76,18 +74,18 @@ fn open_around(
     v: usize,
     f: usize,
     n: usize,
-    rising: bool,
+    which: Neighbours,
     x: u32,
     bounds: Bounds,
 ) -> usize
-    requires fact_1 { Tidy v f w.old }
-    requires fact_2 { x < v }
-    requires fact_3 { 3 * v ≤ length p.now }
-    requires fact_4 { 10 * v ≤ length q.now }
-    requires room { n + length (opened_around (rules_of bounds.limit bounds.size) (mesh_of v f w.old p.now q.now) rising x) ≤ 3 * f }
-    ensures { Added v f w.old n (opened_around (rules_of bounds.limit bounds.size) (mesh_of v f w.old p.now q.now) rising x) w.new result }
+    requires tidy { Tidy v f w.old }
+    requires point { x < v }
+    requires points_long { 3 * v ≤ length p.now }
+    requires quadrics_long { 10 * v ≤ length q.now }
+    requires room { n + length (opened_around (rules_of bounds.limit bounds.size) (mesh_of v f w.old p.now q.now) which x) ≤ 3 * f }
+    ensures { Added v f w.old n (opened_around (rules_of bounds.limit bounds.size) (mesh_of v f w.old p.now q.now) which x) w.new result }
 {
-    let count = ring::list_around(w, v, f, rising, x);
+    let count = ring::list_around(w, v, f, which, x);
     open_listed(w, p, q, v, f, n, x, count, bounds)
 }
 
@@ -106,25 +104,7 @@ pub fn open_neighbours(
     requires room { n + length (opened (rules_of bounds.limit bounds.size) (mesh_of v f w.old p.now q.now) keep) ≤ 3 * f }
     ensures { Added v f w.old n (opened (rules_of bounds.limit bounds.size) (mesh_of v f w.old p.now q.now) keep) w.new result }
 {
-    open_around(w, p, q, v, f, n, false, keep, bounds)
-}
-
-// At the start: opens x with the end of each face edge that rises from it. Says how many pairs are open.
-fn open_rising(
-    w: &mut [u32],
-    p: &[f32],
-    q: &[f64],
-    v: usize,
-    f: usize,
-    n: usize,
-    x: u32,
-    bounds: Bounds,
-) -> usize
-    requires tidy { (Tidy v f w.old) × ((x < v) × ((3 * v ≤ length p.now) × (10 * v ≤ length q.now))) }
-    requires room { n + length (rising_from (rules_of bounds.limit bounds.size) (mesh_of v f w.old p.now q.now) x) ≤ 3 * f }
-    ensures { Added v f w.old n (rising_from (rules_of bounds.limit bounds.size) (mesh_of v f w.old p.now q.now) x) w.new result }
-{
-    open_around(w, p, q, v, f, n, true, x, bounds)
+    open_around(w, p, q, v, f, n, Neighbours::Every, keep, bounds)
 }
 
 // At the start: opens each pair that a face edge runs along from its lower to its higher number. Says how many pairs are open.
@@ -135,10 +115,8 @@ pub fn open_start(w: &mut [u32], p: &[f32], q: &[f64], v: usize, f: usize, bound
     ensures { Added v f w.old 0 (started (rules_of bounds.limit bounds.size) (mesh_of v f w.old p.now q.now)).«open» w.new result }
 {
     let mut n = 0;
-    let mut x = 0;
-    while x < v {
-        n = open_rising(w, p, q, v, f, n, x as u32, bounds);
-        x += 1;
+    for x in 0..v {
+        n = open_around(w, p, q, v, f, n, Neighbours::Rising, x as u32, bounds);
     }
     n
 }

@@ -2,13 +2,13 @@
 ghost use Rattle.std.specs.Prelude.{◌≡◌, ◌+◌, ◌*◌, ◌≤◌, ◌<◌, ltb, length};
 ghost use Rattle.walk.specs.Pairs.{pair_of, apart};
 ghost use Rattle.memory.specs.Memory.{Room};
+ghost use Rattle.memory.specs.Points.{vertex_at};
 ghost use Rattle.memory.specs.Entries.{pair_at};
-ghost use Rattle.openpairs.specs.Clauses.Ranks.{cost_at, place_at, ranked_at, rank};
+ghost use Rattle.openpairs.specs.Clauses.Ranks.{ranked_at, rank};
 ghost use Rattle.openpairs.specs.Clauses.Changes.{Named, LeastAt, Closed, Dropped};
 
-use geometry::Point;
 use memory::{keep_at, remove_at, set_pair, vertex_at};
-use placement::pair::{pair_cost, pair_place};
+use placement::pair::{Vertex, pair_cost, pair_place};
 use placement::{Bounds, Fold};
 
 // The least open pair: its place in the list, and the pair with where it goes.
@@ -55,11 +55,9 @@ pub fn drop_pairs(w: &mut [u32], v: usize, f: usize, n: usize, keep: u32, remove
     ensures { Dropped v f w.old n keep remove w.new result }
 {
     let mut kept = 0;
-    let mut i = 0;
-    while i < n {
+    for i in 0..n {
         let first = keep_at(w, v, f, i);
         let second = remove_at(w, v, f, i);
-        i += 1;
         if is_apart(first, second, keep, remove) {
             set_pair(w, v, f, kept, first, second);
             kept += 1;
@@ -68,8 +66,8 @@ pub fn drop_pairs(w: &mut [u32], v: usize, f: usize, n: usize, keep: u32, remove
     kept
 }
 
-// A pair's cost.
-fn cost_of(
+// What the two points of a pair carry, keep's first.
+pub fn ends_at(
     w: &[u32],
     p: &[f32],
     q: &[f64],
@@ -77,41 +75,16 @@ fn cost_of(
     f: usize,
     keep: u32,
     remove: u32,
-    bounds: Bounds,
-) -> f64
-    requires fact_1 { Room v f w.now }
-    requires fact_2 { 3 * v ≤ length p.now }
-    requires fact_3 { 10 * v ≤ length q.now }
-    requires fact_4 { keep < v }
-    requires fact_5 { remove < v }
-    ensures { result ≡ cost_at v f w.now p.now q.now bounds.size keep remove }
+) -> (Vertex, Vertex)
+    requires room { Room v f w.now }
+    requires points_long { 3 * v ≤ length p.now }
+    requires quadrics_long { 10 * v ≤ length q.now }
+    requires named { (keep < v) × (remove < v) }
+    ensures { result ≡ (vertex_at v f w.now p.now q.now keep, vertex_at v f w.now p.now q.now remove) }
 {
     let stays = vertex_at(w, p, q, v, f, keep as usize);
     let goes = vertex_at(w, p, q, v, f, remove as usize);
-    pair_cost(stays, goes, bounds.size)
-}
-
-// Where a pair goes.
-fn place_of(
-    w: &[u32],
-    p: &[f32],
-    q: &[f64],
-    v: usize,
-    f: usize,
-    keep: u32,
-    remove: u32,
-    bounds: Bounds,
-) -> Point
-    requires fact_1 { Room v f w.now }
-    requires fact_2 { 3 * v ≤ length p.now }
-    requires fact_3 { 10 * v ≤ length q.now }
-    requires fact_4 { keep < v }
-    requires fact_5 { remove < v }
-    ensures { result ≡ place_at v f w.now p.now q.now bounds.size keep remove }
-{
-    let stays = vertex_at(w, p, q, v, f, keep as usize);
-    let goes = vertex_at(w, p, q, v, f, remove as usize);
-    pair_place(stays, goes, bounds.size)
+    (stays, goes)
 }
 
 // The pair in a place of the list, with its cost, which is worked out anew.
@@ -124,20 +97,22 @@ fn ranked_at(
     i: usize,
     bounds: Bounds,
 ) -> Ranked
-    requires fact_1 { i < 3 * f }
-    requires fact_2 { Room v f w.now }
-    requires fact_3 { ((pair_at v f w.now i).keep < v) × ((pair_at v f w.now i).remove < v) }
-    requires fact_4 { 3 * v ≤ length p.now }
-    requires fact_5 { 10 * v ≤ length q.now }
+    requires inside { i < 3 * f }
+    requires room { Room v f w.now }
+    requires named { ((pair_at v f w.now i).keep < v) × ((pair_at v f w.now i).remove < v) }
+    requires points_long { 3 * v ≤ length p.now }
+    requires quadrics_long { 10 * v ≤ length q.now }
     ensures { result ≡ ranked_at v f w.now p.now q.now bounds.size i }
 {
     let keep = keep_at(w, v, f, i);
     let remove = remove_at(w, v, f, i);
+    let (stays, goes) = ends_at(w, p, q, v, f, keep, remove);
+    let cost = pair_cost(stays, goes, bounds.size);
     Ranked {
         at: i,
-        cost: cost_of(w, p, q, v, f, keep, remove, bounds),
-        keep: keep,
-        remove: remove,
+        cost,
+        keep,
+        remove,
     }
 }
 
@@ -145,21 +120,9 @@ fn ranked_at(
 fn comes_first_by_key(a: Ranked, b: Ranked) -> bool
     ensures { result ≡ ltb (rank a) (rank b) }
 {
-    let first = bits::order::order(a.cost);
-    let second = bits::order::order(b.cost);
-    if first < second {
-        return true;
-    }
-    if second < first {
-        return false;
-    }
-    if a.keep < b.keep {
-        return true;
-    }
-    if b.keep < a.keep {
-        return false;
-    }
-    a.remove < b.remove
+    let first = (bits::order::order(a.cost), a.keep, a.remove);
+    let second = (bits::order::order(b.cost), b.keep, b.remove);
+    first < second
 }
 
 // The same. Keys are in the order of the costs, so they are worked out only where neither cost is below the other: for equal costs, which a zero's sign may
@@ -195,21 +158,24 @@ pub fn least_pair(
     ensures { LeastAt v f w.now p.now q.now n bounds.limit bounds.size result }
 {
     let mut least = ranked_at(w, p, q, v, f, 0, bounds);
-    let mut i = 1;
-    while i < n {
+    for i in 1..n {
         let next = ranked_at(w, p, q, v, f, i, bounds);
-        i += 1;
         if comes_first(next, least) {
             least = next;
         }
     }
+    let Ranked {
+        at,
+        keep,
+        remove,
+        ..
+    } = least;
+    let (stays, goes) = ends_at(w, p, q, v, f, keep, remove);
+    let place = pair_place(stays, goes, bounds.size);
     let fold = Fold {
-        keep: least.keep,
-        remove: least.remove,
-        place: place_of(w, p, q, v, f, least.keep, least.remove, bounds),
+        keep,
+        remove,
+        place,
     };
-    Least {
-        at: least.at,
-        fold: fold,
-    }
+    Least { at, fold }
 }

@@ -1,6 +1,6 @@
 -- What holds of orders and their parts.
-mod LoopLaws
 pub mod PartLaws
 pub mod OthersLaws
 pub mod FineLaws
+mod BeforeLaws
 pub mod FaultLaws

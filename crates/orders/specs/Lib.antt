@@ -3,4 +3,3 @@ pub mod Parts
 pub mod Orders
 pub mod Refused
 pub mod Examples
-pub mod Clauses

@@ -3,7 +3,6 @@
 
 ghost use Rattle.std.specs.Prelude.{◌≡◌, ◌+◌, ◌<◌, ltb, length};
 ghost use Rattle.orders.specs.Refused as Refused;
-ghost use Rattle.orders.specs.Clauses.{looked_at};
 
 // The most orders of a call.
 pub const MOST_ORDERS: usize = 64;
@@ -49,10 +48,7 @@ pub struct Buffers {
 fn before_end(cell: usize, part: Part) -> bool
     ensures { result ≡ ltb cell (part.from + part.len) }
 {
-    if cell < part.from {
-        return true;
-    }
-    cell - part.from < part.len
+    cell < part.from || cell - part.from < part.len
 }
 
 // Whether a part lies outside a buffer of so many cells.
@@ -66,54 +62,32 @@ fn outside(part: Part, cells: usize) -> bool
 fn misplaced(order: Order, cells: Buffers) -> bool
     ensures { result ≡ Refused.misplaced cells order }
 {
-    let points = order.points;
-    let faces = order.faces;
-    let margin = order.margin;
-    let out_points = order.out_points;
-    let out_faces = order.out_faces;
-    outside(points, cells.points)
-        | outside(faces, cells.faces)
-        | outside(margin, cells.margins)
-        | outside(out_points, cells.out_points)
-        | outside(out_faces, cells.out_faces)
+    outside(order.points, cells.points)
+        || outside(order.faces, cells.faces)
+        || outside(order.margin, cells.margins)
+        || outside(order.out_points, cells.out_points)
+        || outside(order.out_faces, cells.out_faces)
 }
 
 // Whether two parts share a cell.
 fn share(a: Part, b: Part) -> bool
     ensures { result ≡ Refused.share a b }
 {
-    (0 < a.len) & (0 < b.len) & before_end(a.from, b) & before_end(b.from, a)
+    0 < a.len && 0 < b.len && before_end(a.from, b) && before_end(b.from, a)
 }
 
 // Whether two orders have an output cell in common.
 fn clash(a: Order, b: Order) -> bool
     ensures { result ≡ Refused.clash a b }
 {
-    let points = a.out_points;
-    let other_points = b.out_points;
-    let faces = a.out_faces;
-    let other_faces = b.out_faces;
-    share(points, other_points) | share(faces, other_faces)
+    share(a.out_points, b.out_points) || share(a.out_faces, b.out_faces)
 }
 
 // Whether there are more orders than a call takes, or more than there is room for their answers.
 fn too_many(orders: usize, cells: Buffers) -> bool
     ensures { result ≡ Refused.is_too_many orders cells }
 {
-    if MOST_ORDERS < orders {
-        return true;
-    }
-    (cells.answers < 5 * orders) | (cells.closed < 3 * orders)
-}
-
-// The orders that are looked at: no more than a call takes, however long the list.
-fn looked_at(orders: usize) -> usize
-    ensures { result ≡ looked_at orders }
-{
-    if orders < MOST_ORDERS {
-        return orders;
-    }
-    MOST_ORDERS
+    MOST_ORDERS < orders || cells.answers < 5 * orders || cells.closed < 3 * orders
 }
 
 // Whether the order at a place has an output cell in common with one before it.
@@ -122,25 +96,20 @@ fn clashes(orders: &[Order], place: usize) -> bool
     ensures { result ≡ Refused.clashes orders.now place }
 {
     let order = orders[place];
-    let mut found = false;
-    let mut j = 0;
-    while j < place {
-        found = found | clash(orders[j], order);
-        j = j + 1;
-    }
-    found
+    orders[..place].iter().any(|before| clash(*before, order))
 }
 
-// Whether a call is refused as a whole.
+// Whether a call is refused as a whole. Where there are too many orders, none is looked at.
 pub fn refused(orders: &[Order], cells: Buffers) -> bool
     ensures { result ≡ Refused.refused orders.now cells }
 {
-    let n = looked_at(orders.len());
-    let mut found = too_many(orders.len(), cells);
-    let mut k = 0;
-    while k < n {
-        found = found | misplaced(orders[k], cells) | clashes(orders, k);
-        k = k + 1;
+    if too_many(orders.len(), cells) {
+        return true;
     }
-    found
+    for (place, order) in orders.iter().enumerate() {
+        if misplaced(*order, cells) || clashes(orders, place) {
+            return true;
+        }
+    }
+    false
 }

@@ -6,18 +6,16 @@ use native.Mathlib.Numerals.{add-one}
 use native.Mathlib.Omega.{arith}
 use mathlib.Core.Path.{◌≡◌, refl, sym, ap, subst, ◌∙◌}
 use mathlib.Core.List.{List, [], ◌∷◌, ◌++◌, map, map-append, append-nil}
-use mathlib.Core.Bool.{true, false}
-use lib.Dec.{eqb}
+use mathlib.Core.Bool.{Bool, true, false}
 use lib.ListN.{length, length-map}
 use lib.Ieee.{Float}
-use borrow.Author.Tests.{eq-eqb, ne_eqb}
 use Rattle.walk.specs.declared.Face.{Face}
 use Rattle.lists.specs.Lists.{those, below, every, some}
 use Rattle.walk.specs.Faces.{proper, face_at}
 use Rattle.walk.specs.Output.{used, renumbered, numbers_of}
 use Rattle.lists.proofs.EveryLaws.{length-those, those-append}
 use Rattle.walk.proofs.PlaceLaws.{once-none}
-use Rattle.memory.specs.Memory.{live, lives, live_faces, Room}
+use Rattle.memory.specs.Memory.{lives, live_faces, Room}
 use Rattle.lists.specs.Frames.{But}
 use Rattle.mesh.specs.Clauses.Chains.{Tidy}
 use Rattle.lists.proofs.BelowLaws.{count-below-most}
@@ -97,26 +95,26 @@ module _ {v f : ℕ} {p : List Float} {w₀ : List ℕ} {points₀ : List Float}
   pub turn-known : Known v f p w points counts.points
   turn-known = record { old = points₀; seen = used [] (first_faces f w₀ k); met-now = t.listed.met }
 
-  module _ (k-low : k < f) (flag : ℕ) (read : flag ≡ live f w k) where
+  module _ (k-low : k < f) (flag : Bool) (read : flag ≡ lives f w k) where
     -- the flag is that of the beginning
-    same_flag : lives f w₀ k ≡ eqb flag 1
-    same_flag = sym (lives-but t.but (omega arith) k k-low) ∙ ap (λ (n : ℕ). eqb n 1) (sym read)
+    same_flag : lives f w₀ k ≡ flag
+    same_flag = sym (lives-but t.but (omega arith) k k-low) ∙ sym read
 
     -- a slot whose face is dead
-    pub turn-dead : (flag ≡ 1 → ⊥) → Turn v f p w₀ points₀ faces₀ w points faces counts (k + 1)
+    pub turn-dead : flag ≡ false → Turn v f p w₀ points₀ faces₀ w points faces counts (k + 1)
     turn-dead dead = record {
       within = omega arith;
       tidy = t.tidy;
       enough = t.enough;
       but = t.but;
       same_faces = t.same_faces;
-      listed = rw (first-dead f w₀ k (same_flag ∙ ne_eqb flag 1 dead)) t.listed;
+      listed = rw (first-dead f w₀ k (same_flag ∙ dead)) t.listed;
     }
 
-    module _ (alive : flag ≡ 1) (face : Face) (taken : face ≡ face_at w k) where
+    module _ (alive : flag ≡ true) (face : Face) (taken : face ≡ face_at w k) where
       -- the face was live at the beginning
       is_live : lives f w₀ k ≡ true
-      is_live = same_flag ∙ eq-eqb flag 1 alive
+      is_live = same_flag ∙ alive
 
       -- and is the one that stood there
       same-face : face ≡ face_at w₀ k

@@ -8,6 +8,6 @@ pub fn copy_mesh(points: &[f32], faces: &[u32], out_points: &mut [f32], out_face
     ensures points { out_points.new ≡ overlaid points.now out_points.old }
     ensures faces { out_faces.new ≡ overlaid faces.now out_faces.old }
 {
-    lists::copy_f32(points, out_points);
-    lists::copy_u32(faces, out_faces);
+    lists::copy(points, out_points);
+    lists::copy(faces, out_faces);
 }

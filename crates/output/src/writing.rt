@@ -8,7 +8,7 @@ ghost use Rattle.output.specs.Clauses.Written.{MeshWritten};
 ghost use Rattle.output.specs.Clauses.Numbering.{three_put, parts_put, Known, Numbered, FaceWritten};
 
 use crate::Counts;
-use memory::{face_in, live_at, mark_at, point_at, set_mark};
+use memory::{face_in, is_live, mark_at, point_at, set_mark};
 use walk::Face;
 
 // A point's new number, and how many points have one.
@@ -118,12 +118,9 @@ pub fn write_mesh(
         points: 0,
         faces: 0,
     };
-    let mut k = 0;
-    while k < f {
-        let live = live_at(w, f, k);
-        let face = face_in(w, f, k);
-        k += 1;
-        if live == 1 {
+    for k in 0..f {
+        if is_live(w, f, k) {
+            let face = face_in(w, f, k);
             counts = write_face(w, p, v, f, face, counts, out_points, out_faces);
         }
     }

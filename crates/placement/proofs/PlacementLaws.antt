@@ -8,14 +8,14 @@ use lib.Signed.{lt_z, mag}
 use mir.Syntax.{w64}
 use mir.Val.{to_z, of_z}
 use mir.ValLaws.{to_z-of_z}
+use Rattle.std.specs.Prelude.{Some, None, is_some, Option}
+use Rattle.std.specs.Bool.{then_some}
 use Rattle.geometry.specs.declared.Point.{Point}
 use Rattle.geometry.specs.declared.Quadric.{Quadric}
 use Rattle.placement.specs.declared.Kind.{Kind}
 use Rattle.placement.specs.declared.Kind.TheVariants.{Free, Border, Margin}
-use Rattle.placement.specs.declared.Limit.{Limit}
 use Rattle.placement.specs.declared.pair.Vertex.{Vertex}
-use Rattle.placement.specs.declared.pair.Candidate.{Candidate}
-use Rattle.placement.specs.declared.pair.Candidate.TheVariants.{Eligible, Ineligible}
+use Rattle.placement.specs.declared.place.Choice.{Choice}
 use Rattle.placement.specs.Choices.{kind_number, kind_of}
 use Rattle.placement.specs.Errors.{error_at}
 use Rattle.placement.specs.Places.{cost_below, cheaper, cheaper_choice, with_error}
@@ -34,35 +34,29 @@ cheaper-with-error q a b = go (cost_below (error_at q b) (error_at q a))
     go true = refl
     go false = refl
 
--- whether a candidate may be opened
-abbrev pub opens : Candidate → Bool
-opens (Eligible cost place) = true
-opens Ineligible = false
-
--- a pair's candidate may be opened exactly where the pair is eligible
-pub eligible-is : (limit : Limit) (bound : Float) (keep remove : Vertex) → opens (pair_candidate limit bound keep remove) ≡ eligible limit bound keep remove
+-- a pair has a candidate exactly where it is eligible
+pub eligible-is : (limit : Option Float) (bound : Float) (keep remove : Vertex) → is_some (pair_candidate limit bound keep remove) ≡ eligible limit bound keep remove
 unfolding pair_candidate
-eligible-is limit bound keep remove = go (eligible limit bound keep remove)
+eligible-is limit bound keep remove = go (eligible limit bound keep remove) _
   where
-    go : (t : Bool) → opens (cond t (Eligible (pair_cost bound keep remove) (pair_place bound keep remove)) Ineligible) ≡ t
-    go true = refl
-    go false = refl
+    go : (t : Bool) (choice : Choice) → is_some (then_some t choice) ≡ t
+    go true choice = refl
+    go false choice = refl
 
 -- where the candidate is one, the pair is eligible and the candidate has its cost and place; where it is none, the pair is not eligible
-pub candidate-eligible : (limit : Limit) (bound : Float) (keep remove : Vertex) (cost : Float) (place : Point) →
-    Eligible cost place ≡ pair_candidate limit bound keep remove →
-    (eligible limit bound keep remove ≡ true) × (cost ≡ pair_cost bound keep remove) × (place ≡ pair_place bound keep remove)
+pub candidate-eligible : (limit : Option Float) (bound : Float) (keep remove : Vertex) (choice : Choice) → Some choice ≡ pair_candidate limit bound keep remove →
+    (eligible limit bound keep remove ≡ true) × (choice.cost ≡ pair_cost bound keep remove) × (choice.place ≡ pair_place bound keep remove)
 unfolding pair_candidate
-candidate-eligible limit bound keep remove cost place is = go (eligible limit bound keep remove) is
+candidate-eligible limit bound keep remove choice is = go (eligible limit bound keep remove) is
   where
-    go : (t : Bool) → Eligible cost place ≡ cond t (Eligible (pair_cost bound keep remove) (pair_place bound keep remove)) Ineligible →
-        (t ≡ true) × (cost ≡ pair_cost bound keep remove) × (place ≡ pair_place bound keep remove)
+    go : (t : Bool) → Some choice ≡ then_some t (record { place = pair_place bound keep remove; cost = pair_cost bound keep remove }) →
+        (t ≡ true) × (choice.cost ≡ pair_cost bound keep remove) × (choice.place ≡ pair_place bound keep remove)
     go true same = (refl, (cc), (cc))
-    go false other = absurd (true≢false (ap opens other))
+    go false other = absurd (true≢false (ap is_some other))
 
-pub candidate-none : (limit : Limit) (bound : Float) (keep remove : Vertex) → Ineligible ≡ pair_candidate limit bound keep remove →
+pub candidate-none : (limit : Option Float) (bound : Float) (keep remove : Vertex) → None ≡ pair_candidate limit bound keep remove →
     eligible limit bound keep remove ≡ false
-candidate-none limit bound keep remove is = sym (eligible-is limit bound keep remove) ∙ ap opens (sym is)
+candidate-none limit bound keep remove is = sym (eligible-is limit bound keep remove) ∙ ap is_some (sym is)
 
 -- the kind that is stored comes back
 pub kind-back : (k : Kind) → kind_of (kind_number k) ≡ k

@@ -1,10 +1,9 @@
 -- What each case of a choice stands for.
-use Rattle.std.specs.Prelude.{ℕ, Bool, true, false, cond, eqb, Float}
+use Rattle.std.specs.Prelude.{ℕ, Bool, true, false, cond, eqb, Float, Option, Some, None}
+use Rattle.std.specs.Bool.{then_some}
 use Rattle.std.specs.Float.Ieee.{lt}
 use Rattle.placement.specs.declared.Kind.{Kind}
 use Rattle.placement.specs.declared.Kind.TheVariants.{Free, Border, Margin}
-use Rattle.placement.specs.declared.Limit.{Limit}
-use Rattle.placement.specs.declared.Limit.TheVariants.{Unlimited, AtMost}
 
 -- a kind's number in memory: free 0, border 1, margin 2
 abbrev pub kind_number : Kind → ℕ
@@ -23,11 +22,10 @@ fixed Border = true
 fixed Margin = true
 
 -- a limit only where there is one: what is given for it is not looked at otherwise
-abbrev pub limit_of : Bool → Float → Limit
-limit_of true limit = AtMost limit
-limit_of false limit = Unlimited
+abbrev pub limit_of : Bool → Float → Option Float
+limit_of limited limit = then_some limited limit
 
 -- a length is above the limit
-abbrev pub above_limit : Float → Limit → Bool
-above_limit length Unlimited = false
-above_limit length (AtMost most) = lt most length
+abbrev pub above_limit : Float → Option Float → Bool
+above_limit length None = false
+above_limit length (Some most) = lt most length

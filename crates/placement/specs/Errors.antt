@@ -1,6 +1,6 @@
 -- The error at a point (document 01, "Error at p, with h=(x,y,z,1)").
-use Rattle.std.specs.Prelude.{Float}
-use Rattle.std.specs.Float.{binary64}
+use Rattle.std.specs.Prelude.{List, get_or, Float}
+use Rattle.std.specs.Float.{nan, binary64}
 use Rattle.std.specs.Float.Ieee.{add, mul}
 use Rattle.geometry.specs.declared.Point.{Point}
 use Rattle.geometry.specs.declared.Quadric.{Quadric}
@@ -10,6 +10,11 @@ use Rattle.geometry.specs.Constants.{one}
 abbrev pub four_products : Float → Float → Float → Float → Float → Float → Float → Float → Float
 four_products a b c d x y z w =
     add binary64 (add binary64 (add binary64 (mul binary64 a x) (mul binary64 b y)) (mul binary64 c z)) (mul binary64 d w)
+
+-- the same of two rows of four
+abbrev pub row_product : List Float → List Float → Float
+row_product a b =
+    four_products (get_or a 0 nan) (get_or a 1 nan) (get_or a 2 nan) (get_or a 3 nan) (get_or b 0 nan) (get_or b 1 nan) (get_or b 2 nan) (get_or b 3 nan)
 
 -- h=(x,y,z,1) times a column of q
 abbrev pub times_column : Point → Float → Float → Float → Float → Float

@@ -1,5 +1,5 @@
 -- The inverse of the 3x3 block m (document 01, "The 3x3 block m (f64) is inverted as an array of rows").
-use Rattle.std.specs.Prelude.{true, false, cond, List, [], ◌∷◌, get_or, Float}
+use Rattle.std.specs.Prelude.{cond, List, [], ◌∷◌, get_or, Float, Option, Some, None}
 use Rattle.std.specs.Float.{nan, binary64}
 use Rattle.std.specs.Float.Ieee.{add, sub, mul, div, neg, eq}
 use Rattle.geometry.specs.Constants.{nought}
@@ -59,18 +59,10 @@ second_row m d = row_over d (neg (minor_b m)) (minor m.m11 m.m33 m.m31 m.m13) (m
 abbrev pub third_row : Block → Float → List Float
 third_row m d = row_over d (minor_c m) (minor m.m12 m.m31 m.m32 m.m11) (minor m.m11 m.m22 m.m21 m.m12)
 
--- no inverse
-abbrev pub none : Rows
-none =
-    let zeros : List Float = nought ∷ nought ∷ nought ∷ [] in
-    record { exists = false; first = zeros; second = zeros; third = zeros }
-
 -- the rows, each entry over det; det equal to zero: no inverse
-abbrev pub inverse_over : Block → Float → Rows
-inverse_over m det =
-    cond (eq det nought) none
-    (record { exists = true; first = first_row m det; second = second_row m det; third = third_row m det })
+abbrev pub inverse_over : Block → Float → Option Rows
+inverse_over m det = cond (eq det nought) None (Some (record { first = first_row m det; second = second_row m det; third = third_row m det }))
 
--- the inverse of m
-unfoldable pub inverse : Block → Rows
+-- the inverse of m, where it has one
+unfoldable pub inverse : Block → Option Rows
 inverse m = inverse_over m (determinant m)

@@ -1,15 +1,13 @@
 -- A pair (keep, remove) (document 01, "A pair (keep, remove) has q").
-use Rattle.std.specs.Prelude.{Bool, not, ◌&&◌, ◌||◌, cond, Float}
+use Rattle.std.specs.Prelude.{Bool, not, ◌&&◌, ◌||◌, Float, Option}
+use Rattle.std.specs.Bool.{then_some}
 use Rattle.std.specs.Float.Ieee.Scale.{finite}
 use Rattle.geometry.specs.declared.Point.{Point}
 use Rattle.geometry.specs.declared.Quadric.{Quadric}
 use Rattle.geometry.specs.Points.{difference, norm}
 use Rattle.geometry.specs.Quadrics.{quadric_sum}
-use Rattle.placement.specs.declared.Limit.{Limit}
 use Rattle.placement.specs.declared.place.Choice.{Choice}
 use Rattle.placement.specs.declared.pair.Vertex.{Vertex}
-use Rattle.placement.specs.declared.pair.Candidate.{Candidate}
-use Rattle.placement.specs.declared.pair.Candidate.TheVariants.{Eligible, Ineligible}
 use Rattle.placement.specs.Choices.{fixed, above_limit}
 use Rattle.placement.specs.Errors.{error_at}
 use Rattle.placement.specs.Places.{with_error, place_of}
@@ -36,11 +34,11 @@ unfoldable pub pair_cost : Float → Vertex → Vertex → Float
 pair_cost bound keep remove = error_at (pair_quadric keep remove) (pair_place bound keep remove)
 
 -- neither is fixed, its length isn't above the limit, and its cost is finite
-unfoldable pub eligible : Limit → Float → Vertex → Vertex → Bool
+unfoldable pub eligible : Option Float → Float → Vertex → Vertex → Bool
 eligible limit bound keep remove =
     (not (fixed keep.kind || fixed remove.kind) && not (above_limit (pair_length keep remove) limit)) && finite (pair_cost bound keep remove)
 
--- the cost and the place of an eligible pair
-unfoldable pub pair_candidate : Limit → Float → Vertex → Vertex → Candidate
+-- the place and the cost of an eligible pair
+unfoldable pub pair_candidate : Option Float → Float → Vertex → Vertex → Option Choice
 pair_candidate limit bound keep remove =
-    cond (eligible limit bound keep remove) (Eligible (pair_cost bound keep remove) (pair_place bound keep remove)) Ineligible
+    then_some (eligible limit bound keep remove) (record { place = pair_place bound keep remove; cost = pair_cost bound keep remove })

@@ -1,5 +1,6 @@
 -- Where a pair's point goes (document 01, "Its place is the solved point").
-use Rattle.std.specs.Prelude.{Bool, ◌&&◌, cond, List, get_or, Float}
+use Rattle.std.specs.Prelude.{Bool, ◌&&◌, cond, List, get_or, Float, Option, Some, None, option_map, unwrap_or}
+use Rattle.std.specs.Bool.{then_some}
 use Rattle.std.specs.Int.Signed.{lt_z}
 use Rattle.std.specs.Float.{nan, binary32, binary64}
 use Rattle.std.specs.Float.Ieee.{add, mul, neg, lt, le, of_bits}
@@ -11,8 +12,6 @@ use Rattle.geometry.specs.Points.{difference, norm, middle, all_finite}
 use Rattle.placement.specs.declared.inverse.Block.{Block}
 use Rattle.placement.specs.declared.inverse.Rows.{Rows}
 use Rattle.placement.specs.declared.place.Choice.{Choice}
-use Rattle.placement.specs.declared.place.Placement.{Placement}
-use Rattle.placement.specs.declared.place.Placement.TheVariants.{Solved, Unsolved}
 use Rattle.placement.specs.Inverses.{inverse}
 use Rattle.placement.specs.Errors.{error_at}
 
@@ -41,12 +40,13 @@ solved_part row q =
     (add binary64 (mul binary64 (neg (get_or row 0 nan)) q.m14) (mul binary64 (neg (get_or row 1 nan)) q.m24))
     (mul binary64 (neg (get_or row 2 nan)) q.m34))
 
--- the inverse's rows times the column, if there is an inverse
-abbrev pub solved_by : Rows → Quadric → Placement
-solved_by rows q = cond rows.exists (Solved (solved_part rows.first q) (solved_part rows.second q) (solved_part rows.third q)) Unsolved
+-- an inverse's rows times the column
+abbrev pub solved_by : Quadric → Rows → Point
+solved_by q rows = record { x = solved_part rows.first q; y = solved_part rows.second q; z = solved_part rows.third q }
 
-unfoldable pub solved : Quadric → Placement
-solved q = solved_by (inverse (upper_left q)) q
+-- the solved point, if there is an inverse
+unfoldable pub solved : Quadric → Option Point
+solved q = option_map (solved_by q) (inverse (upper_left q))
 
 -- ---- whether it may stand
 
@@ -72,9 +72,9 @@ stands bound length keep p =
     && le (norm (difference p keep)) (mul binary32 two (longer_of length))
 
 -- a solved point that may stand, or none
-unfoldable pub tested : Float → Float → Point → Placement → Placement
-tested bound length keep (Solved x y z) = cond (stands bound length keep (record { x = x; y = y; z = z })) (Solved x y z) Unsolved
-tested bound length keep Unsolved = Unsolved
+unfoldable pub tested : Float → Float → Point → Option Point → Option Point
+tested bound length keep (Some p) = then_some (stands bound length keep p) p
+tested bound length keep None = None
 
 -- ---- what is taken where it may not
 
@@ -100,11 +100,6 @@ fallback q keep remove = cheaper q (cheaper q keep remove) (middle keep remove)
 
 -- ---- the place
 
--- a placement's point, or another where it has none
-abbrev pub point_or : Placement → Point → Point
-point_or (Solved x y z) other = record { x = x; y = y; z = z }
-point_or Unsolved other = other
-
--- the place of a pair with the quadric q and this length
+-- the place of a pair with the quadric q and this length: the solved point where it may stand
 unfoldable pub place_of : Float → Float → Quadric → Point → Point → Point
-place_of bound length q keep remove = point_or (tested bound length keep (solved q)) (fallback q keep remove)
+place_of bound length q keep remove = unwrap_or (tested bound length keep (solved q)) (fallback q keep remove)

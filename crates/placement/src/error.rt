@@ -1,26 +1,26 @@
 // The error of a point.
 ghost use Rattle.std.specs.Prelude.{◌≡◌};
-ghost use Rattle.placement.specs.Errors.{four_products, error_at};
+ghost use Rattle.placement.specs.Errors.{row_product, error_at};
 
 use geometry::{Point, Quadric};
 
-// Four products, summed in index order.
-fn four_products(a: f64, b: f64, c: f64, d: f64, x: f64, y: f64, z: f64, w: f64) -> f64
-    ensures { result ≡ four_products a b c d x y z w }
+// Two rows of four, entry times entry, summed in index order.
+fn row_product(left: [f64; 4], right: [f64; 4]) -> f64
+    ensures { result ≡ row_product left right }
 {
-    ((a * x + b * y) + c * z) + d * w
+    ((left[0] * right[0] + left[1] * right[1]) + left[2] * right[2]) + left[3] * right[3]
 }
 
 // A quadric's error at a point, which may be below zero.
 pub fn error_at(q: Quadric, p: Point) -> f64
     ensures { result ≡ error_at q p }
 {
-    let x = bits::widen(p.x);
-    let y = bits::widen(p.y);
-    let z = bits::widen(p.z);
-    let column1 = four_products(x, y, z, 1.0, q.m11, q.m12, q.m13, q.m14);
-    let column2 = four_products(x, y, z, 1.0, q.m12, q.m22, q.m23, q.m24);
-    let column3 = four_products(x, y, z, 1.0, q.m13, q.m23, q.m33, q.m34);
-    let column4 = four_products(x, y, z, 1.0, q.m14, q.m24, q.m34, q.m44);
-    four_products(column1, column2, column3, column4, x, y, z, 1.0)
+    let h = [bits::widen(p.x), bits::widen(p.y), bits::widen(p.z), 1.0];
+    let sums = [
+        row_product(h, [q.m11, q.m12, q.m13, q.m14]),
+        row_product(h, [q.m12, q.m22, q.m23, q.m24]),
+        row_product(h, [q.m13, q.m23, q.m33, q.m34]),
+        row_product(h, [q.m14, q.m24, q.m34, q.m44]),
+    ];
+    row_product(sums, h)
 }

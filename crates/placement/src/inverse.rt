@@ -16,10 +16,9 @@ pub struct Block {
     pub m33: f64,
 }
 
-// The inverse by rows. Where there is none the rows are zeros.
+// An inverse by its rows.
 #[derive(Clone, Copy)]
 pub struct Rows {
-    pub exists: bool,
     pub first: [f64; 3],
     pub second: [f64; 3],
     pub third: [f64; 3],
@@ -86,24 +85,17 @@ fn third_row(m: Block, det: f64) -> [f64; 3]
 }
 
 // The inverse of a block, where its determinant isn't zero.
-pub fn inverse(r1: [f64; 3], r2: [f64; 3], r3: [f64; 3]) -> Rows
+pub fn inverse(r1: [f64; 3], r2: [f64; 3], r3: [f64; 3]) -> Option<Rows>
     ensures { result ≡ inverse_of (block_of r1 r2 r3) }
 {
     let m = block_of(r1, r2, r3);
     let det = determinant(m);
     if det == 0.0 {
-        let none = [0.0, 0.0, 0.0];
-        return Rows {
-            exists: false,
-            first: none,
-            second: none,
-            third: none,
-        };
+        return None;
     }
-    Rows {
-        exists: true,
+    Some(Rows {
         first: first_row(m, det),
         second: second_row(m, det),
         third: third_row(m, det),
-    }
+    })
 }

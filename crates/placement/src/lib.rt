@@ -7,7 +7,7 @@ pub mod pair;
 pub mod place;
 
 ghost use Rattle.std.specs.Prelude.{◌≡◌};
-ghost use Rattle.placement.specs.Choices.{kind_number, kind_of, fixed, limit_of, above_limit};
+ghost use Rattle.placement.specs.Choices.{kind_number, kind_of, fixed, above_limit};
 
 use geometry::Point;
 
@@ -19,17 +19,10 @@ pub enum Kind {
     Margin,
 }
 
-// The length that a pair may have: any, or at most so much.
-#[derive(Clone, Copy)]
-pub enum Limit {
-    Unlimited,
-    AtMost(f32),
-}
-
-// What bounds the pairs of a walk: the limit on a pair's length, and the bound on the size of a coordinate.
+// What bounds the pairs of a walk: the limit on a pair's length, where there is one, and the bound on the size of a coordinate.
 #[derive(Clone, Copy)]
 pub struct Bounds {
-    pub limit: Limit,
+    pub limit: Option<f32>,
     pub size: f32,
 }
 
@@ -41,58 +34,44 @@ pub struct Fold {
     pub place: Point,
 }
 
+impl Kind {
+    // Whether a point of this kind is fixed.
+    pub fn is_fixed(self) -> bool
+        ensures { result ≡ fixed self }
+    {
+        matches!(self, Kind::Border | Kind::Margin)
+    }
+}
+
 // A kind's number, as memory holds it.
-pub fn kind_number(kind: Kind) -> u32
-    ensures { result ≡ kind_number kind }
-{
-    match kind {
-        Kind::Free => 0,
-        Kind::Border => 1,
-        Kind::Margin => 2,
+impl From<Kind> for u32 {
+    ghost from_gives = { λ kind number. number ≡ kind_number kind };
+
+    fn from(kind: Kind) -> u32 {
+        match kind {
+            Kind::Free => 0,
+            Kind::Border => 1,
+            Kind::Margin => 2,
+        }
     }
 }
 
 // The kind that a number stands for: 0 is free, 1 is border, and any other is margin.
-pub fn kind_of(number: u32) -> Kind
-    ensures { result ≡ kind_of number }
-{
-    if number == 0 {
-        Kind::Free
-    } else if number == 1 {
-        Kind::Border
-    } else {
-        Kind::Margin
+impl From<u32> for Kind {
+    ghost from_gives = { λ number kind. kind ≡ kind_of number };
+
+    fn from(number: u32) -> Kind {
+        match number {
+            0 => Kind::Free,
+            1 => Kind::Border,
+            _ => Kind::Margin,
+        }
     }
 }
 
-// Whether a point of this kind is fixed.
-pub fn is_fixed(kind: Kind) -> bool
-    ensures { result ≡ fixed kind }
-{
-    match kind {
-        Kind::Free => false,
-        Kind::Border => true,
-        Kind::Margin => true,
-    }
-}
-
-// A limit only where there is one.
-pub fn limit_of(limited: bool, limit: f32) -> Limit
-    ensures { result ≡ limit_of limited limit }
-{
-    if limited {
-        Limit::AtMost(limit)
-    } else {
-        Limit::Unlimited
-    }
-}
-
-// Whether a length is above the limit.
-pub fn is_above(length: f32, limit: Limit) -> bool
+// Whether a length is above the limit, where there is one.
+pub fn is_above(length: f32, limit: Option<f32>) -> bool
     ensures { result ≡ above_limit length limit }
 {
-    match limit {
-        Limit::Unlimited => false,
-        Limit::AtMost(most) => length > most,
-    }
+    limit.is_some_and(|most| length > most)
 }

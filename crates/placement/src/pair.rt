@@ -4,8 +4,8 @@ ghost use Rattle.placement.specs.Choices.{above_limit};
 ghost use Rattle.placement.specs.Pairs.{pair_quadric, pair_length, pair_choice, pair_place, pair_cost, eligible, pair_candidate};
 
 use crate::place::{Choice, choose};
-use crate::{Kind, Limit, is_above, is_fixed};
-use geometry::{Point, Quadric, is_finite};
+use crate::{Kind, is_above};
+use geometry::{Point, Quadric};
 
 // What the thinning keeps of a point.
 #[derive(Clone, Copy)]
@@ -13,13 +13,6 @@ pub struct Vertex {
     pub point: Point,
     pub quadric: Quadric,
     pub kind: Kind,
-}
-
-// A pair that may be opened, with its cost and its place, or one that may not.
-#[derive(Clone, Copy)]
-pub enum Candidate {
-    Eligible(f64, Point),
-    Ineligible,
 }
 
 // Keep's quadric plus remove's.
@@ -37,13 +30,10 @@ pub fn pair_length(keep: Vertex, remove: Vertex) -> f32
 }
 
 // Whether a pair is longer than the limit. Its length is worked out only where there is one.
-fn is_too_long(keep: Vertex, remove: Vertex, limit: Limit) -> bool
+fn is_too_long(keep: Vertex, remove: Vertex, limit: Option<f32>) -> bool
     ensures { result ≡ above_limit (pair_length keep remove) limit }
 {
-    match limit {
-        Limit::Unlimited => false,
-        Limit::AtMost(_) => is_above(pair_length(keep, remove), limit),
-    }
+    limit.is_some() && is_above(pair_length(keep, remove), limit)
 }
 
 // The place of a pair with the error there.
@@ -67,33 +57,28 @@ pub fn pair_cost(keep: Vertex, remove: Vertex, bound: f32) -> f64
     pair_choice(keep, remove, bound).cost
 }
 
-// The cost and the place of a pair that may be opened. A pair that is refused for its ends or its length isn't solved.
-pub fn pair_candidate(keep: Vertex, remove: Vertex, limit: Limit, bound: f32) -> Candidate
+// The place and the cost of a pair that may be opened. A pair that is refused for its ends or its length isn't solved.
+pub fn pair_candidate(
+    keep: Vertex,
+    remove: Vertex,
+    limit: Option<f32>,
+    bound: f32,
+) -> Option<Choice>
     ensures { result ≡ pair_candidate limit bound keep remove }
 {
-    let keep_kind = keep.kind;
-    let remove_kind = remove.kind;
-    if is_fixed(keep_kind) | is_fixed(remove_kind) {
-        return Candidate::Ineligible;
+    if keep.kind.is_fixed() | remove.kind.is_fixed() {
+        return None;
     }
     if is_too_long(keep, remove, limit) {
-        return Candidate::Ineligible;
+        return None;
     }
     let choice = pair_choice(keep, remove, bound);
-    let place = choice.place;
-    if is_finite(choice.cost) {
-        Candidate::Eligible(choice.cost, place)
-    } else {
-        Candidate::Ineligible
-    }
+    choice.cost.is_finite().then_some(choice)
 }
 
 // Whether a pair may be opened.
-pub fn pair_eligible(keep: Vertex, remove: Vertex, limit: Limit, bound: f32) -> bool
+pub fn pair_eligible(keep: Vertex, remove: Vertex, limit: Option<f32>, bound: f32) -> bool
     ensures { result ≡ eligible limit bound keep remove }
 {
-    match pair_candidate(keep, remove, limit, bound) {
-        Candidate::Eligible(_, _) => true,
-        Candidate::Ineligible => false,
-    }
+    pair_candidate(keep, remove, limit, bound).is_some()
 }

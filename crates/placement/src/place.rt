@@ -15,13 +15,6 @@ const LEAST: f32 = 1.0 / 8388608.0;
 // The largest square of a length that decides a distance: four times a larger one might not be finite.
 const LARGEST: f32 = 1.0e30;
 
-// A solved point by its parts, or none.
-#[derive(Clone, Copy)]
-pub enum Placement {
-    Solved(f32, f32, f32),
-    Unsolved,
-}
-
 // A place and the error there.
 #[derive(Clone, Copy)]
 pub struct Choice {
@@ -37,26 +30,19 @@ fn solved_part(row: [f64; 3], q: Quadric) -> f32
 }
 
 // The solved point, before it is tested.
-pub fn solve(q: Quadric) -> Placement
+pub fn solve(q: Quadric) -> Option<Point>
     ensures { result ≡ solved q }
 {
     let rows = inverse(
         [q.m11, q.m12, q.m13],
         [q.m12, q.m22, q.m23],
         [q.m13, q.m23, q.m33],
-    );
-    let first = rows.first;
-    let second = rows.second;
-    let third = rows.third;
-    if rows.exists {
-        Placement::Solved(
-            solved_part(first, q),
-            solved_part(second, q),
-            solved_part(third, q),
-        )
-    } else {
-        Placement::Unsolved
-    }
+    )?;
+    Some(Point {
+        x: solved_part(rows.first, q),
+        y: solved_part(rows.second, q),
+        z: solved_part(rows.third, q),
+    })
 }
 
 // Whether a part is at most the bound in size.
@@ -105,19 +91,10 @@ fn may_stand(p: Point, keep: Point, apart: Point, bound: f32) -> bool
 }
 
 // A solved point that may stand, or none.
-fn tested(solved: Placement, keep: Point, apart: Point, bound: f32) -> Placement
+fn tested(solved: Option<Point>, keep: Point, apart: Point, bound: f32) -> Option<Point>
     ensures { result ≡ tested_of bound (norm_of apart) keep solved }
 {
-    match solved {
-        Placement::Solved(x, y, z) => {
-            if may_stand(Point { x, y, z }, keep, apart, bound) {
-                solved
-            } else {
-                Placement::Unsolved
-            }
-        }
-        Placement::Unsolved => Placement::Unsolved,
-    }
+    solved.filter(|p| may_stand(*p, keep, apart, bound))
 }
 
 // A place with the error there.
@@ -156,7 +133,7 @@ pub fn choose(q: Quadric, keep: Point, remove: Point, bound: f32) -> Choice
     ensures { result ≡ with_error q (place_of bound (norm_of (difference_of keep remove)) q keep remove) }
 {
     match tested(solve(q), keep, keep.difference(remove), bound) {
-        Placement::Solved(x, y, z) => with_error(q, Point { x, y, z }),
-        Placement::Unsolved => fallback(q, keep, remove),
+        Some(place) => with_error(q, place),
+        None => fallback(q, keep, remove),
     }
 }

@@ -8,14 +8,14 @@ use lib.Ieee.{Float}
 use lib.Dec.{leb}
 use lib.ListN.{length}
 use borrow.Author.Tests.{le-leb, lt-leb}
-use Rattle.placement.specs.declared.Limit.{Limit}
+use Rattle.std.specs.Prelude.{Option}
 use Rattle.placement.specs.declared.pair.Vertex.{Vertex}
 use Rattle.placement.specs.Pairs.{pair_place}
 use Rattle.walk.specs.declared.Pair.{Pair}
 use Rattle.lists.specs.Lists.{sum, below}
 use Rattle.walk.specs.Faces.{Mesh}
 use Rattle.walk.specs.declared.Reason.{Reason}
-use Rattle.walk.specs.declared.Tested.TheVariants.{Allowed, Not}
+use Rattle.std.specs.Prelude.{Ok, Err}
 use Rattle.walk.specs.FoldTest.{fold_test}
 use Rattle.walk.specs.Walk.{State, StepAnswer, folded, closed, ended, told_by, tried, chosen, answer, after, SameState}
 use Rattle.walk.specs.Pairs.{pair_of}
@@ -44,7 +44,7 @@ use Rattle.memory.proofs.MeshLaws.{vertex-but, mesh-but}
 
 -- ---- the end
 
-module _ {v f : ℕ} {w : List ℕ} {p q : List Float} {n live : ℕ} (h : Holds v f w p q n live) (target : ℕ) (limit : Limit) (bound : Float) where
+module _ {v f : ℕ} {w : List ℕ} {p q : List Float} {n live : ℕ} (h : Holds v f w p q n live) (target : ℕ) (limit : Option Float) (bound : Float) where
   -- where the answer is the end, nothing is done
   ended-done : answer (rules_of limit bound) target (state_of v f w p q n) ≡ ended →
       StepDone v f w p q n target limit bound w p q (record { step = Ended; «open» = n; live = live })
@@ -102,7 +102,7 @@ module _ {v f : ℕ} {w : List ℕ} {p q : List Float} {n live : ℕ} {bound : F
   }
 
   -- it is closed: the state after that
-  closed-state : {w' : List ℕ} {n' : ℕ} → ClosedAt v f w n r.at w' n' → (limit : Limit) (reason : Reason) →
+  closed-state : {w' : List ℕ} {n' : ℕ} → ClosedAt v f w n r.at w' n' → (limit : Option Float) (reason : Reason) →
       SameState (state_of v f w' p q n') (after (rules_of limit bound) (state_of v f w p q n) (closed (pair_of r.fold.keep r.fold.remove) reason))
   unfolding state_of after
   closed-state {w'} {n'} done limit reason = record {
@@ -112,7 +112,7 @@ module _ {v f : ℕ} {w : List ℕ} {p q : List Float} {n live : ℕ} {bound : F
         (λ g. ap (λ (x : Pair). sum g (open_pairs v f w' n') + g x) (sym found.pair_unchanged) ∙ done.sums g);
   }
 
-  pub closed-done : {w' : List ℕ} {n' : ℕ} → ClosedAt v f w n r.at w' n' → (limit : Limit) (reason : Reason) →
+  pub closed-done : {w' : List ℕ} {n' : ℕ} → ClosedAt v f w n r.at w' n' → (limit : Option Float) (reason : Reason) →
       AnswerDone v f w p q n limit bound (closed (pair_of r.fold.keep r.fold.remove) reason) w' p q
       (record { step = Closed (pair_of r.fold.keep r.fold.remove) reason; «open» = n'; live = live })
   closed-done {w'} {n'} done limit reason =
@@ -135,21 +135,21 @@ module _ {v f : ℕ} {w : List ℕ} {p q : List Float} {n live : ℕ} {bound : F
 
 -- ---- a pair that is tried
 
-module _ (v f : ℕ) (w : List ℕ) (p q : List Float) (n : ℕ) (r : Least) (limit : Limit) (bound : Float) {w' : List ℕ} {p' q' : List Float} {s : Stepped} where
+module _ (v f : ℕ) (w : List ℕ) (p q : List Float) (n : ℕ) (r : Least) (limit : Option Float) (bound : Float) {w' : List ℕ} {p' q' : List Float} {s : Stepped} where
   -- allowed, it is folded
-  pub tried-folded : fold_test (rules_of limit bound) (mesh_of v f w p q) (pair_of r.fold.keep r.fold.remove) ≡ Allowed →
+  pub tried-folded : fold_test (rules_of limit bound) (mesh_of v f w p q) (pair_of r.fold.keep r.fold.remove) ≡ Ok tt →
       AnswerDone v f w p q n limit bound (folded (pair_of r.fold.keep r.fold.remove)) w' p' q' s → PairTried v f w p q n r limit bound w' p' q' s
   unfolding tried told_by
   tried-folded passes done = rw passes done
 
   -- not allowed, it is closed, and the reason told
-  pub tried-closed : {reason : Reason} → fold_test (rules_of limit bound) (mesh_of v f w p q) (pair_of r.fold.keep r.fold.remove) ≡ Not reason →
+  pub tried-closed : {reason : Reason} → fold_test (rules_of limit bound) (mesh_of v f w p q) (pair_of r.fold.keep r.fold.remove) ≡ Err reason →
       AnswerDone v f w p q n limit bound (closed (pair_of r.fold.keep r.fold.remove) reason) w' p' q' s → PairTried v f w p q n r limit bound w' p' q' s
   unfolding tried told_by
   tried-closed fails done = rw fails done
 
 -- what is done after cells of near and far have changed is done to the state as it was
-pub tried-before : {v f : ℕ} {w w₁ : List ℕ} {p q : List Float} {n live lo hi : ℕ} (r : Least) {limit : Limit} {bound : Float}
+pub tried-before : {v f : ℕ} {w w₁ : List ℕ} {p q : List Float} {n live lo hi : ℕ} (r : Least) {limit : Option Float} {bound : Float}
     {w' : List ℕ} {p' q' : List Float} {s : Stepped} → Holds v f w p q n live → But lo hi w w₁ → near_from v f ≤ lo → hi ≤ folds_from v f →
     PairTried v f w₁ p q n r limit bound w' p' q' s → PairTried v f w p q n r limit bound w' p' q' s
 tried-before {v} {f} {w} {w₁} {p} {q} {n} {live} {lo} {hi} r {limit} {bound} {w'} {p'} {q'} {s} h but above up done =

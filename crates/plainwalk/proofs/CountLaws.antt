@@ -4,8 +4,8 @@ use Prim.Native.Nat.{ℕ, ◌+◌}
 use mathlib.Core.Path.{◌≡◌, refl, sym, ap, subst, ◌∙◌}
 use mathlib.Core.List.{List, [], ◌∷◌, ◌++◌}
 use lib.Ieee.{Float}
+use Rattle.std.specs.Prelude.{Option}
 use Rattle.lists.specs.Lists.{sum}
-use Rattle.placement.specs.declared.Limit.{Limit}
 use Rattle.walk.specs.declared.Closings.{Closings}
 use Rattle.walk.specs.declared.Pair.{Pair}
 use Rattle.walk.specs.declared.Reason.{Reason}
@@ -19,18 +19,18 @@ use Rattle.plainwalk.specs.Whole.{WalkedFrom}
 use Rattle.plainwalk.proofs.LentLaws.{Holding, Taken, Walking, walking_start, turn-folded, room-closed, turn-closed, walking-end}
 
 -- Where a walk has come from m₀, after n folds, with so many pairs closed for each reason.
-pub record Counting {v f : ℕ} (h : Holding v f) (target : ℕ) (limit : Limit) (bound : Float) (m₀ m : Moment) (n : ℕ) (closed : Closings) : Type 0 where
+pub record Counting {v f : ℕ} (h : Holding v f) (target : ℕ) (limit : Option Float) (bound : Float) (m₀ m : Moment) (n : ℕ) (closed : Closings) : Type 0 where
   pub reasons : List Reason
   pub walking : Walking h target limit bound m₀ m n reasons
   pub counts : closed ≡ closings_of reasons
 
 -- before the first step
-pub counting-start : {v f : ℕ} (h : Holding v f) (target : ℕ) (limit : Limit) (bound : Float) (m : Moment) → h.Held m →
+pub counting-start : {v f : ℕ} (h : Holding v f) (target : ℕ) (limit : Option Float) (bound : Float) (m : Moment) → h.Held m →
     Counting h target limit bound m m 0 none_closed
 unfolding closings_of sum
 counting-start h target limit bound m held = record { reasons = []; walking = walking_start h target limit bound m held; counts = refl }
 
-module _ {v f : ℕ} {h : Holding v f} {target : ℕ} {limit : Limit} {bound : Float} {m₀ m : Moment} {n : ℕ} {closed : Closings}
+module _ {v f : ℕ} {h : Holding v f} {target : ℕ} {limit : Option Float} {bound : Float} {m₀ m : Moment} {n : ℕ} {closed : Closings}
     (counting : Counting h target limit bound m₀ m n closed) {m' : Moment} {step : Step} (done : Taken h target limit bound m m' step) where
   -- a pair was folded
   pub count-folded : {x : Pair} → step ≡ Folded x → Counting h target limit bound m₀ (noted v f n x m') (n + 1) closed

@@ -6,7 +6,7 @@ use mathlib.Core.Path.{◌≡◌, refl, sym, ap, ap₂, ◌∙◌}
 use mathlib.Core.List.{List}
 use lib.Ieee.{Float}
 use lib.ListN.{length, length-append}
-use Rattle.placement.specs.declared.Limit.{Limit}
+use Rattle.std.specs.Prelude.{Option}
 use Rattle.placement.specs.declared.pair.Vertex.{Vertex}
 use Rattle.lists.specs.Lists.{sum, those}
 use Rattle.walk.specs.Faces.{Mesh}
@@ -36,7 +36,7 @@ use Rattle.memory.specs.Layout.{costs_to, places_to}
 use Rattle.openpairs.proofs.OpenLaws.{open-length}
 use Rattle.folding.proofs.TriedLaws.{folded-live}
 
-module _ {v f : ℕ} {w : List ℕ} {p q : List Float} {n live : ℕ} {limit : Limit} {bound : Float} {keep remove : ℕ}
+module _ {v f : ℕ} {w : List ℕ} {p q : List Float} {n live : ℕ} {limit : Option Float} {bound : Float} {keep remove : ℕ}
     {w₁ : List ℕ} {p' q' : List Float} {gone : ℕ}
     (h : Holds v f w p q n live) (fold : MeshFolded v f limit bound w p q keep remove w₁ p' q' gone) where
   -- the faces that are gone and those that are left are the faces before

@@ -7,7 +7,7 @@ use mathlib.Core.Path.{◌≡◌, refl, sym, ap, ◌∙◌}
 use mathlib.Core.List.{List, [], ◌∷◌, ◌++◌}
 use lib.Ieee.{Float}
 use lib.ListN.{length, length-append}
-use Rattle.placement.specs.declared.Limit.{Limit}
+use Rattle.std.specs.Prelude.{Option}
 use Rattle.placement.specs.declared.pair.Vertex.{Vertex}
 use Rattle.lists.specs.Lists.{below}
 use Rattle.lists.specs.Frames.{But}
@@ -70,7 +70,7 @@ module _ {v f : ℕ} (h : Holding v f) where
   pub faces_few : (m : Moment) → faces_left (h.state m) ≤ f
   faces_few m = omega (arith, faces_are m, live-few f m.u32s)
 
-  module _ (target : ℕ) (limit : Limit) (bound : Float) where
+  module _ (target : ℕ) (limit : Option Float) (bound : Float) where
     -- it is an engine of the plain machine
     abbrev pub engine : Engine (plain_machine (rules_of limit bound) target) Moment
     engine = record {
@@ -108,7 +108,7 @@ module _ {v f : ℕ} (h : Holding v f) where
     unfolding folds_in below
     walking_start m held = record { start = held; going = any.going_start engine m held refl }
 
-module _ {v f : ℕ} {h : Holding v f} {target : ℕ} {limit : Limit} {bound : Float} {m₀ m : Moment} {n : ℕ} {reasons : List Reason}
+module _ {v f : ℕ} {h : Holding v f} {target : ℕ} {limit : Option Float} {bound : Float} {m₀ m : Moment} {n : ℕ} {reasons : List Reason}
     (walking : Walking h target limit bound m₀ m n reasons) where
   -- each fold has killed a face, so with those that are left they are at most f
   pub folds_few : n + m.live ≤ f
@@ -224,7 +224,7 @@ module _ {v f : ℕ} {h : Holding v f} {target : ℕ} {limit : Limit} {bound : F
         }
 
 -- the walk from a memory that holds the start, in whatever order its open pairs are listed, is the whole walk
-pub walked_whole : {v f : ℕ} (h : Holding v f) (m : Moment) {w w' : List ℕ} {p q p' q' : List Float} {target : ℕ} {limit : Limit} {bound : Float} {r : Walked} →
+pub walked_whole : {v f : ℕ} (h : Holding v f) (m : Moment) {w w' : List ℕ} {p q p' q' : List Float} {target : ℕ} {limit : Option Float} {bound : Float} {r : Walked} →
     h.Held m → SameState (h.state m) (start_in v f w p q limit bound) → Within v f w p q m.u32s m.f32s m.f64s →
     WalkedFrom v f (h.state m) m.u32s m.f32s m.f64s target limit bound w' p' q' r → WalkDone v f w p q target limit bound w' p' q' r
 walked_whole {v} {f} h m {target = target} {limit} {bound} held same within done =

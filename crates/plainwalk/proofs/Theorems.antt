@@ -7,7 +7,7 @@ use mathlib.Core.Path.{◌≡◌, sym, ap, ◌∙◌}
 use mathlib.Core.List.{List, []}
 use lib.Ieee.{Float}
 use lib.ListN.{length}
-use Rattle.placement.specs.declared.Limit.{Limit}
+use Rattle.std.specs.Prelude.{Option}
 use Rattle.placement.specs.declared.pair.Vertex.{Vertex}
 use Rattle.walk.specs.Faces.{Mesh}
 use Rattle.walk.specs.Walk.{walk, State, ended, budget, started, answer, plain_machine}
@@ -23,11 +23,11 @@ use Rattle.plainwalk.proofs.WalkLaws.{start-sound}
 use Rattle.mesh.proofs.AroundLaws.{live-few}
 
 -- the state that the plain walk of the mesh in memory comes to
-abbrev pub end_in : ℕ → ℕ → List ℕ → List Float → List Float → ℕ → Limit → Float → State Vertex
+abbrev pub end_in : ℕ → ℕ → List ℕ → List Float → List Float → ℕ → Option Float → Float → State Vertex
 end_in v f w p q target limit bound =
     walk (plain_machine (rules_of limit bound) target) (budget f (start_in v f w p q limit bound)) (start_in v f w p q limit bound)
 
-module _ {v f : ℕ} {w : List ℕ} {p q : List Float} {target : ℕ} {limit : Limit} {bound : Float} {w' : List ℕ} {p' q' : List Float} {r : Walked}
+module _ {v f : ℕ} {w : List ℕ} {p q : List Float} {target : ℕ} {limit : Option Float} {bound : Float} {w' : List ℕ} {p' q' : List Float} {r : Walked}
     (tidy : Tidy v f w) (done : WalkDone v f w p q target limit bound w' p' q' r) where
   -- the walk ends: a further step would do nothing
   pub plain-walk-ends : answer (rules_of limit bound) target (end_in v f w p q target limit bound) ≡ ended
@@ -57,7 +57,7 @@ module _ {v f : ℕ} {w : List ℕ} {p q : List Float} {target : ℕ} {limit : L
       )
 
 -- what the contract allows is one outcome: the same mesh, the same number of folds, the same number of faces left
-module _ {v f : ℕ} {w : List ℕ} {p q : List Float} {target : ℕ} {limit : Limit} {bound : Float}
+module _ {v f : ℕ} {w : List ℕ} {p q : List Float} {target : ℕ} {limit : Option Float} {bound : Float}
     {w₁ w₂ : List ℕ} {p₁ q₁ p₂ q₂ : List Float} {r₁ r₂ : Walked}
     (one : WalkDone v f w p q target limit bound w₁ p₁ q₁ r₁) (two : WalkDone v f w p q target limit bound w₂ p₂ q₂ r₂) where
   pub plain-walk-one : (mesh_of v f w₁ p₁ q₁ ≡ mesh_of v f w₂ p₂ q₂) × (r₁.folds ≡ r₂.folds) × (r₁.live ≡ r₂.live)

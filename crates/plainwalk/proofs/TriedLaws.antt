@@ -7,7 +7,6 @@ use mathlib.Core.Logic.{◌≢◌}
 use mathlib.Core.List.{List}
 use lib.Ieee.{Float}
 use lib.ListN.{length}
-use Rattle.placement.specs.declared.Limit.{Limit}
 use Rattle.walk.specs.declared.Reason.{Reason}
 use Rattle.walk.specs.Pairs.{pair_of, opened}
 use Rattle.walk.proofs.SoundLaws.{is_open_pair, open-differ}
@@ -18,7 +17,7 @@ use Rattle.mesh.specs.Clauses.Chains.{Tidy}
 use Rattle.openpairs.specs.declared.pairs.Least.{Least}
 use Rattle.openpairs.specs.State.{state_of}
 use Rattle.openpairs.specs.Clauses.Changes.{Dropped, Added, Closed as ClosedAt}
-use Rattle.folding.specs.declared.Tried.TheVariants.{Folded as Made, Refused}
+use Rattle.std.specs.Prelude.{Ok, Err, Option}
 use Rattle.folding.specs.Clauses.Folds.{FoldTried}
 use Rattle.plainwalk.specs.declared.Step.TheVariants.{Folded, Closed}
 use Rattle.plainwalk.specs.Steps.{Holds, Found, PairTried}
@@ -36,8 +35,8 @@ module _ {v f : ℕ} {w : List ℕ} {p q : List Float} {n live : ℕ} {bound : F
 
   -- ---- the fold is made
 
-  module _ {limit : Limit} {w₁ : List ℕ} {p' q' : List Float} {gone : ℕ}
-      (tried : FoldTried v f limit bound w p q least.fold.keep least.fold.remove w₁ p' q' (Made gone)) where
+  module _ {limit : Option Float} {w₁ : List ℕ} {p' q' : List Float} {gone : ℕ}
+      (tried : FoldTried v f limit bound w p q least.fold.keep least.fold.remove w₁ p' q' (Ok gone)) where
     -- listing the faces around its points leaves the state and the pair
     listed-holds : Holds v f tried.listed p q n live
     listed-holds = holds-but h tried.but (omega arith)
@@ -73,8 +72,8 @@ module _ {v f : ℕ} {w : List ℕ} {p q : List Float} {n live : ℕ} {bound : F
 
   -- ---- it isn't allowed
 
-  module _ {limit : Limit} {w₁ : List ℕ} {p' q' : List Float}
-      {reason : Reason} (tried : FoldTried v f limit bound w p q least.fold.keep least.fold.remove w₁ p' q' (Refused reason)) where
+  module _ {limit : Option Float} {w₁ : List ℕ} {p' q' : List Float}
+      {reason : Reason} (tried : FoldTried v f limit bound w p q least.fold.keep least.fold.remove w₁ p' q' (Err reason)) where
     -- what closing the pair asks
     pub refused-few : (least.at < n) × (n ≤ 3 * f) × Room v f w₁
     refused-few = rw tried.came.1 (found.within, open-few h, (holds-but h tried.but (omega arith)).tidy.room)

@@ -7,7 +7,7 @@ use mathlib.Core.Path.{◌≡◌, refl, sym, ap, ◌∙◌}
 use mathlib.Core.List.{List}
 use lib.Ieee.{Float}
 use lib.ListN.{length}
-use Rattle.placement.specs.declared.Limit.{Limit}
+use Rattle.std.specs.Prelude.{Option}
 use Rattle.lists.specs.Lists.{sum, below}
 use Rattle.walk.specs.Walk.{started, SameState}
 use Rattle.walk.specs.Sound.{Sound}
@@ -33,7 +33,7 @@ use Rattle.memory.proofs.MeshLaws.{mesh-length, mesh-but}
 -- ---- the start
 
 -- the plain walk's start from a tidy memory is sound
-pub start-sound : {v f : ℕ} {w : List ℕ} (limit : Limit) (bound : Float) (p q : List Float) → Tidy v f w → Sound (start_in v f w p q limit bound)
+pub start-sound : {v f : ℕ} {w : List ℕ} (limit : Option Float) (bound : Float) (p q : List Float) → Tidy v f w → Sound (start_in v f w p q limit bound)
 unfolding mesh_of
 start-sound {v} {f} {w} limit bound p q tidy =
     started-sound (rules_of limit bound) (mesh_of v f w p q) (rw (mesh-length v f w p q) (live-proper v f w tidy.faces_proper))
@@ -58,13 +58,13 @@ plain v f = record {
 }
 
 -- its step is taken as the plain walk's
-pub plain_step : {v f : ℕ} {w : List ℕ} {p q : List Float} {n live target : ℕ} {limit : Limit} {bound : Float} {w' : List ℕ} {p' q' : List Float} {r : Stepped} →
+pub plain_step : {v f : ℕ} {w : List ℕ} {p q : List Float} {n live target : ℕ} {limit : Option Float} {bound : Float} {w' : List ℕ} {p' q' : List Float} {r : Stepped} →
     StepDone v f w p q n target limit bound w' p' q' r → Taken (plain v f) target limit bound (moment w p q n live) (moment w' p' q' r.«open» r.live) r.step
 plain_step done = record { holds = done.holds; within = done.within; same_answer = done.same_answer; same_state = done.same_state }
 
 -- ---- from the start
 
-module _ {v f : ℕ} {w w₁ : List ℕ} (p q : List Float) {n : ℕ} (limit : Limit) (bound : Float) (tidy : Tidy v f w)
+module _ {v f : ℕ} {w w₁ : List ℕ} (p q : List Float) {n : ℕ} (limit : Option Float) (bound : Float) (tidy : Tidy v f w)
     (whole : length (live_faces f w) ≡ f) (points_long : 3 * v ≤ length p) (quadrics_long : 10 * v ≤ length q)
     (add : Added v f w 0 (started (rules_of limit bound) (mesh_of v f w p q)).«open» w₁ n) where
   -- the memory holds the start

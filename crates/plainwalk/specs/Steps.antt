@@ -1,6 +1,5 @@
 -- One step of a walk in memory, tied to the plain walk's step.
-use Rattle.std.specs.Prelude.{ℕ, ◌*◌, ◌≤◌, ◌<◌, ◌≡◌, List, length, drop, Float}
-use Rattle.placement.specs.declared.Limit.{Limit}
+use Rattle.std.specs.Prelude.{ℕ, ◌*◌, ◌≤◌, ◌<◌, ◌≡◌, List, length, drop, Float, Option}
 use Rattle.placement.specs.Pairs.{pair_place}
 use Rattle.walk.specs.Walk.{StepAnswer, folded, closed, ended, tried, answer, after, SameState}
 use Rattle.walk.specs.Pairs.{pair_of}
@@ -54,18 +53,18 @@ abbrev pub Within : (v f : ℕ) (w : List ℕ) (p q : List Float) (w' : List ℕ
 Within v f = WithinTo (work_to v f) v f
 
 -- An answer is given and acted on: the state after it is the plain walk's, the open pairs in any order.
-pub record AnswerDone (v f : ℕ) (w : List ℕ) (p q : List Float) (n : ℕ) (limit : Limit) (bound : Float) (a : StepAnswer) (w' : List ℕ) (p' q' : List Float) (r : Stepped) : Type 0 where
+pub record AnswerDone (v f : ℕ) (w : List ℕ) (p q : List Float) (n : ℕ) (limit : Option Float) (bound : Float) (a : StepAnswer) (w' : List ℕ) (p' q' : List Float) (r : Stepped) : Type 0 where
   pub holds : Holds v f w' p' q' r.«open» r.live
   pub within : StepWithin v f w p q w' p' q'
   pub same_answer : answer_of r.step ≡ a
   pub same_state : SameState (state_of v f w' p' q' r.«open») (after (rules_of limit bound) (state_of v f w p q n) a)
 
 -- A pair is folded where the plain walk folds it, and closed where it closes it.
-abbrev pub PairTried : (v f : ℕ) (w : List ℕ) (p q : List Float) (n : ℕ) (least : Least) (limit : Limit) (bound : Float) (w' : List ℕ) (p' q' : List Float) (r : Stepped) → Type 0
+abbrev pub PairTried : (v f : ℕ) (w : List ℕ) (p q : List Float) (n : ℕ) (least : Least) (limit : Option Float) (bound : Float) (w' : List ℕ) (p' q' : List Float) (r : Stepped) → Type 0
 PairTried v f w p q n least limit bound w' p' q' r =
     AnswerDone v f w p q n limit bound (tried (rules_of limit bound) (mesh_of v f w p q) (pair_of least.fold.keep least.fold.remove)) w' p' q' r
 
 -- A step: its answer is the plain walk's, and so is the state after it.
-abbrev pub StepDone : (v f : ℕ) (w : List ℕ) (p q : List Float) (n : ℕ) (target : ℕ) (limit : Limit) (bound : Float) (w' : List ℕ) (p' q' : List Float) (r : Stepped) → Type 0
+abbrev pub StepDone : (v f : ℕ) (w : List ℕ) (p q : List Float) (n : ℕ) (target : ℕ) (limit : Option Float) (bound : Float) (w' : List ℕ) (p' q' : List Float) (r : Stepped) → Type 0
 StepDone v f w p q n target limit bound w' p' q' r =
     AnswerDone v f w p q n limit bound (answer (rules_of limit bound) target (state_of v f w p q n)) w' p' q' r

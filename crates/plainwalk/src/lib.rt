@@ -8,7 +8,6 @@ ghost use Rattle.openpairs.specs.State.{state_of};
 ghost use Rattle.plainwalk.specs.Steps.{Holds, Found, PairTried, StepDone};
 ghost use Rattle.plainwalk.specs.Whole.{WalkedFrom, WalkDone};
 
-use folding::Tried;
 use openpairs::Least;
 use placement::Bounds;
 use walk::{Closings, Pair, Reason};
@@ -58,7 +57,7 @@ fn try_pair(
     let keep = fold.keep;
     let remove = fold.remove;
     match folding::try_fold(w, p, q, v, f, fold) {
-        Tried::Folded(gone) => {
+        Ok(gone) => {
             let kept = openpairs::drop_pairs(w, v, f, open, keep, remove);
             let opened = openpairs::open_neighbours(w, p, q, v, f, kept, keep, bounds);
             let left = live - gone;
@@ -68,7 +67,7 @@ fn try_pair(
                 live: left,
             }
         }
-        Tried::Refused(reason) => {
+        Err(reason) => {
             let at = least.at;
             let still_open = openpairs::close_pair(w, v, f, open, at);
             Stepped {
@@ -131,7 +130,7 @@ fn walk_on(
     let mut pairs_open = open;
     let mut faces_live = live;
     let mut folds = 0;
-    let mut closed = walk::none_closed();
+    let mut closed = Closings::default();
     loop {
         let stepped = plain_step(w, p, q, v, f, pairs_open, faces_live, target, bounds);
         pairs_open = stepped.open;
@@ -143,7 +142,7 @@ fn walk_on(
                 folds += 1;
             }
             Step::Closed(_, reason) => {
-                closed = walk::counted(closed, reason);
+                closed = closed.with(reason);
             }
             Step::Ended => {
                 return Walked {

@@ -1,11 +1,12 @@
 -- Operations of `geometry` and `placement` on bit patterns: patterns in, patterns out. Every NaN pattern is the one NaN, and is
 -- written as 7fc00000 or 7ff8000000000000.
-use Rattle.std.specs.Prelude.{ℕ, ◌+◌, ◌≡◌, Bool, List, [], ◌∷◌, get_or, Float}
+use Rattle.std.specs.Prelude.{ℕ, ◌+◌, ◌≡◌, Bool, List, [], ◌∷◌, get_or, Float, Option, is_some, unwrap_or}
 use Rattle.std.specs.Float.{nan, binary32, binary64}
 use Rattle.std.specs.Float.Ieee.{of_bits, to_bits}
 use Rattle.geometry.specs.declared.Point.{Point}
 use Rattle.geometry.specs.declared.Plane.{Plane}
 use Rattle.geometry.specs.declared.Quadric.{Quadric}
+use Rattle.geometry.specs.Constants.{nought}
 use Rattle.geometry.specs.Planes.{plane_of}
 use Rattle.geometry.specs.Quadrics.{zero_quadric}
 use Rattle.placement.specs.declared.Kind.TheVariants.{Free}
@@ -78,16 +79,22 @@ plane_pattern b = plane_bits (plane_of (point_from b 0) (point_from b 3) (point_
 unfoldable pub error_pattern : List ℕ → List ℕ → ℕ
 error_pattern q p = to_bits binary64 (error_at (quadric_from q 0) (point_from p 0))
 
--- the inverse of three rows; where there is none, zeros
-unfoldable pub inverse_of : List ℕ → Rows
+-- the inverse of three rows
+unfoldable pub inverse_of : List ℕ → Option Rows
 inverse_of b = inverse (block_of (row_from b 0) (row_from b 3) (row_from b 6))
+
+-- what is shown of it: its rows, and zeros where there is none
+abbrev pub rows_shown : Option Rows → Rows
+rows_shown found =
+    let zeros : List Float = nought ∷ nought ∷ nought ∷ [] in
+    unwrap_or found (record { first = zeros; second = zeros; third = zeros })
 
 -- what a call leaves: whether there is one, and the patterns of its rows
 pub record Inverted (rows : List ℕ) (found : Bool) (first second third : List ℕ) : Type 0 where
-  pub exists_is : found ≡ (inverse_of rows).exists
-  pub first_stands : first ≡ row_bits (inverse_of rows).first
-  pub second_is : second ≡ row_bits (inverse_of rows).second
-  pub third_stands : third ≡ row_bits (inverse_of rows).third
+  pub exists_is : found ≡ is_some (inverse_of rows)
+  pub first_stands : first ≡ row_bits (rows_shown (inverse_of rows)).first
+  pub second_is : second ≡ row_bits (rows_shown (inverse_of rows)).second
+  pub third_stands : third ≡ row_bits (rows_shown (inverse_of rows)).third
 
 -- two points without a quadric: the length of their pair
 unfoldable pub length_pattern : List ℕ → ℕ

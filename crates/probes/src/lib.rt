@@ -7,7 +7,15 @@ ghost use Rattle.probes.specs.Patterns.{at32, at64, point_from, quadric_from, ro
 use bits::patterns::{bits_of_f32, bits_of_f64, f32_of, f64_of};
 use geometry::{Point, Quadric};
 use placement::Kind;
+use placement::inverse::Rows;
 use placement::pair::Vertex;
+
+// What is written where there is no inverse.
+const NO_ROWS: Rows = Rows {
+    first: [0.0, 0.0, 0.0],
+    second: [0.0, 0.0, 0.0],
+    third: [0.0, 0.0, 0.0],
+};
 
 // The f32 of the pattern at a place.
 fn f32_at(bits: &[u32], at: usize) -> f32
@@ -141,13 +149,11 @@ pub extern "C" fn single_inverse(
         row_from(rows, 3),
         row_from(rows, 6),
     );
-    let row1 = found.first;
-    let row2 = found.second;
-    let row3 = found.third;
-    *first = row_bits(row1);
-    *second = row_bits(row2);
-    *third = row_bits(row3);
-    found.exists
+    let shown = found.unwrap_or(NO_ROWS);
+    *first = row_bits(shown.first);
+    *second = row_bits(shown.second);
+    *third = row_bits(shown.third);
+    found.is_some()
 }
 
 // The length of the pair of two points.

@@ -20,7 +20,8 @@ use Rattle.walk.proofs.BorderLaws.{shared-sym, shared-holds, edge-differ, edge-s
 use Rattle.walk.proofs.MachineLaws.{walk-last}
 use Rattle.walk.proofs.RenumberLaws.{used-held}
 use Rattle.walk.proofs.NumberedLaws.{place-differ, shared-renumbered, length-renumbered, faces_back}
-use Rattle.meaning.specs.declared.Verdict.TheVariants.{Admitted}
+use Rattle.std.specs.Prelude.{Ok}
+use Rattle.meaning.specs.declared.Task.TheVariants.{Admitted}
 use Rattle.meaning.specs.Input.{Input, points_in, point_at}
 use Rattle.meaning.specs.Answers.{verdict_of}
 use Rattle.meaning.specs.Outcome.{rules_in, start_of, target_of, last_mesh, Outcome, outcome}
@@ -33,7 +34,7 @@ use Rattle.promises.proofs.Fair.{fold-of-two}
 
 -- ---- with preserve on
 
-module _ (i : Input) (admitted : verdict_of i ≡ Admitted) (preserved : i.options.preserve ≡ true) where
+module _ (i : Input) (admitted : verdict_of i ≡ Ok Admitted) (preserved : i.options.preserve ≡ true) where
   -- the ends of a border edge are fixed
   pub end-fixed : (x y : ℕ) → border_edge (given_faces i) x y ≡ true → fixed_point i x ≡ true
   end-fixed x y e = border-fixed i x preserved (end-border (given_faces i) x y (points_in i) (passed i admitted).faces_proper e)
@@ -103,14 +104,14 @@ module _ (i : Input) (admitted : verdict_of i ≡ Admitted) (preserved : i.optio
 -- ---- and so is every border edge
 
 -- the faces that are written are those left, with new numbers
-written-are : (i : Input) → verdict_of i ≡ Admitted → (outcome i).answer.number ≡ 0 → written_faces i ≡ renumbered (last_mesh i).faces
+written-are : (i : Input) → verdict_of i ≡ Ok Admitted → (outcome i).answer.number ≡ 0 → written_faces i ≡ renumbered (last_mesh i).faces
 written-are i admitted done =
     let left = (last_mesh i).faces in
     ap (λ (o : Outcome). faces_of o.answer.faces o.faces) (thinned-is i admitted done)
     ∙ ap (λ n. faces_of n (numbers_of (renumbered left))) (sym (length-renumbered left))
     ∙ faces_back (renumbered left)
 
-module _ (i : Input) (admitted : verdict_of i ≡ Admitted) (preserved : i.options.preserve ≡ true) (done : (outcome i).answer.number ≡ 0)
+module _ (i : Input) (admitted : verdict_of i ≡ Ok Admitted) (preserved : i.options.preserve ≡ true) (done : (outcome i).answer.number ≡ 0)
     (x y : ℕ) (edge : border_edge (given_faces i) x y ≡ true) where
   -- a border edge of the input is a border edge of what is written, and its ends have their input bits (`border-in-output`)
   pub border-edge-written : border_edge (written_faces i) (new_number i x) (new_number i y) ≡ true

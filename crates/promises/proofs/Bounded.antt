@@ -15,14 +15,13 @@ use lib.Ieee.Fits.{down_pos}
 use lib.Ieee.Scale.{finite}
 use borrow.Author.Tests.{ltb-true, eqb-true, lt-ltb, eq-eqb}
 use Rattle.lists.proofs.TestLaws.{by-test, either-of, all-of-six}
+use Rattle.std.specs.Prelude.{Option, Some, None, unwrap_or}
 use Rattle.geometry.specs.Constants.{half, nought}
 use Rattle.geometry.specs.declared.Point.{Point}
 use Rattle.geometry.specs.declared.Quadric.{Quadric}
 use Rattle.geometry.specs.Points.{difference, norm, middle, all_finite}
 use Rattle.placement.specs.Errors.{error_at}
-use Rattle.placement.specs.declared.place.Placement.{Placement}
-use Rattle.placement.specs.declared.place.Placement.TheVariants.{Solved, Unsolved}
-use Rattle.placement.specs.Places.{is_in_size, solved, stands, tested, two, longer_of, cost_below, cheaper, fallback, point_or, place_of}
+use Rattle.placement.specs.Places.{is_in_size, solved, stands, tested, two, longer_of, cost_below, cheaper, fallback, place_of}
 use Rattle.promises.specs.Finite.{small, small_point, power}
 use Rattle.promises.proofs.Floats.{AtMost, most, Has, has-power, most-wider, round-most, add_most}
 
@@ -154,14 +153,11 @@ module _ (b : ℕ) (fits : b ≤ 126) where
       (and_elim_left _ (le (norm (difference p keep)) (mul binary32 two (longer_of length))) h) in
       record { x_most = in_size p.x all.0 all.3; y_most = in_size p.y all.1 all.4; z_most = in_size p.z all.2 all.5 }
 
-  -- a placement that was tested, or another point where it has none
-  tested-within : (length : Float) (keep other : Point) (placed : Placement) → Within 1 b other → Within 1 b (point_or (tested (power b) length keep placed) other)
+  -- a solved point that was tested, or another point where there is none
+  tested-within : (length : Float) (keep other : Point) (found : Option Point) → Within 1 b other → Within 1 b (unwrap_or (tested (power b) length keep found) other)
   unfolding tested
-  tested-within length keep other Unsolved h = h
-  tested-within length keep other (Solved x y z) h =
-      by-test (stands (power b) length keep (record { x = x; y = y; z = z }))
-      (λ t. rw t (stands-within length keep (record { x = x; y = y; z = z }) t))
-      (λ t. rw t h)
+  tested-within length keep other None h = h
+  tested-within length keep other (Some p) h = by-test (stands (power b) length keep p) (λ t. rw t (stands-within length keep p t)) (λ t. rw t h)
 
   -- the cheaper of two points
   cheaper-within : (q : Quadric) (p r : Point) → Within 1 b p → Within 1 b r → Within 1 b (cheaper q p r)

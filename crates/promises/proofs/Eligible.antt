@@ -6,10 +6,10 @@ use mathlib.Core.Bool.{true, false, not, ◌&&◌, ◌||◌}
 use borrow.Author.Tests.{not-true}
 use lib.Ieee.{Float}
 use lib.Ieee.Scale.{finite}
+use Rattle.std.specs.Prelude.{Option}
 use Rattle.lists.specs.Lists.{every}
 use Rattle.lists.proofs.TestLaws.{both_true, neither-of}
 use Rattle.lists.proofs.EveryLaws.{every-implies}
-use Rattle.placement.specs.declared.Limit.{Limit}
 use Rattle.placement.specs.declared.pair.Vertex.{Vertex}
 use Rattle.placement.specs.Choices.{fixed, above_limit}
 use Rattle.placement.specs.Pairs.{pair_length, pair_cost, eligible}
@@ -24,14 +24,14 @@ use Rattle.meaning.specs.Outcome.{rules_in, start_of, target_of}
 use Rattle.promises.specs.Steps.{state_at, answer_at, carried}
 
 -- what an eligible pair is: neither point is fixed, its length is not above the limit, and its cost is finite
-pub record Fit (limit : Limit) (bound : Float) (keep remove : Vertex) : Type 0 where
+pub record Fit (limit : Option Float) (bound : Float) (keep remove : Vertex) : Type 0 where
   pub keep_free : fixed keep.kind ≡ false
   pub remove_free : fixed remove.kind ≡ false
   pub not_long : above_limit (pair_length keep remove) limit ≡ false
   pub cost_finite : finite (pair_cost bound keep remove) ≡ true
 
 -- the test says so
-pub eligible-fit : (limit : Limit) (bound : Float) (keep remove : Vertex) → eligible limit bound keep remove ≡ true → Fit limit bound keep remove
+pub eligible-fit : (limit : Option Float) (bound : Float) (keep remove : Vertex) → eligible limit bound keep remove ≡ true → Fit limit bound keep remove
 unfolding eligible
 eligible-fit limit bound keep remove e =
     let parts = both_true (not (fixed keep.kind || fixed remove.kind) && not (above_limit (pair_length keep remove) limit)) (finite (pair_cost bound keep remove)) e in

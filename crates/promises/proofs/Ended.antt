@@ -22,7 +22,8 @@ use Rattle.walk.proofs.StepLaws.{ended-open, fold-answer}
 use Rattle.walk.proofs.MachineLaws as machines
 use Rattle.walk.proofs.WalkLaws.{plain-ending, walk-sound, walk-points, walk_ends, walk-enough}
 use Rattle.walk.proofs.StateLaws.{SoundFew}
-use Rattle.meaning.specs.declared.Verdict.TheVariants.{Admitted}
+use Rattle.std.specs.Prelude.{Ok}
+use Rattle.meaning.specs.declared.Task.TheVariants.{Admitted}
 use Rattle.meaning.specs.Input.{Input, points_in, faces_in}
 use Rattle.meaning.specs.Answers.{verdict_of}
 use Rattle.meaning.specs.Start.{start_vertex, start_mesh}
@@ -55,7 +56,7 @@ start-faces i = refl
 pub start-count : (i : Input) → length (start_of i).mesh.faces ≡ faces_in i
 start-count i = ap length (start-faces i) ∙ length-each (face_at i.faces) (faces_in i)
 
-module _ (i : Input) (admitted : verdict_of i ≡ Admitted) where
+module _ (i : Input) (admitted : verdict_of i ≡ Ok Admitted) where
   -- sound
   pub start-sound : Sound (start_of i)
   unfolding start_of start_mesh

@@ -9,9 +9,9 @@ use mathlib.Core.Bool.{true, not, ◌&&◌, ◌||◌, cond, and-true}
 use lib.Pow.{pow-add}
 use lib.ListN.{length}
 use lib.Ieee.{Float}
+use Rattle.std.specs.Prelude.{Option}
 use Rattle.lists.proofs.TestLaws.{flag_true}
 use Rattle.lists.proofs.SumLaws.{witness}
-use Rattle.placement.specs.declared.Limit.{Limit}
 use Rattle.placement.specs.declared.pair.Vertex.{Vertex}
 use Rattle.placement.specs.Choices.{fixed, above_limit}
 use Rattle.placement.specs.Pairs.{pair_quadric, pair_length, pair_place, pair_cost, eligible}
@@ -21,7 +21,8 @@ use Rattle.walk.specs.Pairs.{pair_of, eligible_pair}
 use Rattle.walk.specs.Sound.{Sound}
 use Rattle.walk.proofs.FaceLaws.{held_below}
 use Rattle.walk.proofs.SoundLaws.{is_open_pair, open_shared}
-use Rattle.meaning.specs.declared.Verdict.TheVariants.{Admitted}
+use Rattle.std.specs.Prelude.{Ok}
+use Rattle.meaning.specs.declared.Task.TheVariants.{Admitted}
 use Rattle.meaning.specs.Arithmetic.{rules_of}
 use Rattle.meaning.specs.Input.{Input, bound_in}
 use Rattle.meaning.specs.Answers.{verdict_of}
@@ -58,7 +59,7 @@ pair-finite b w fits is-power keep remove keep-small remove-small few q =
 
 -- its cost being finite, the other two rules make it eligible or not
 by-rest :
-    (limit : Limit) {bound : Float} {keep remove : Vertex} → PairFinite bound keep remove
+    (limit : Option Float) {bound : Float} {keep remove : Vertex} → PairFinite bound keep remove
     → eligible limit bound keep remove ≡ (not (fixed keep.kind || fixed remove.kind) && not (above_limit (pair_length keep remove) limit))
 unfolding eligible
 by-rest limit {bound} {keep} {remove} known =
@@ -66,7 +67,7 @@ by-rest limit {bound} {keep} {remove} known =
 
 -- ---- in every state that the walk reaches
 
-module _ (i : Input) (admitted : verdict_of i ≡ Admitted) (n : ℕ) where
+module _ (i : Input) (admitted : verdict_of i ≡ Ok Admitted) (n : ℕ) where
   -- it is sound, and the quadrics have their weights
   reached : Sound (state_at i n) × Weighed i.options.limit (bound_in i) (state_at i n).mesh
   reached =

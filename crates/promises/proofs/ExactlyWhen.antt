@@ -18,10 +18,11 @@ use Rattle.bits.specs.Cut.{zero_float}
 use Rattle.placement.specs.Choices.{fixed}
 use Rattle.walk.specs.declared.Pair.{Pair}
 use Rattle.walk.specs.Faces.{face_at}
-use Rattle.meaning.specs.declared.Verdict.{Verdict}
-use Rattle.meaning.specs.declared.Verdict.TheVariants.{Refused, Copied, Admitted}
+use Rattle.std.specs.Prelude.{Ok, Err}
+use Rattle.meaning.specs.declared.Refusal.{Refusal}
+use Rattle.meaning.specs.declared.Task.TheVariants.{Copied, Admitted}
 use Rattle.meaning.specs.Input.{Input, points_in, faces_in, bound_in}
-use Rattle.meaning.specs.Answers.{uneven, large, short, empty, bad_ratio, bad_limit, bad_unit, bad_coordinate, outside, bad_entry, verdict_of}
+use Rattle.meaning.specs.Answers.{number_of, place_of, Verdict, uneven, large, short, empty, bad_ratio, bad_limit, bad_unit, bad_coordinate, outside, bad_entry, verdict_of}
 use Rattle.meaning.specs.Start.{start_kind, fixed_count}
 use Rattle.meaning.specs.Outcome.{closed_walked, target_of, folds_walked, stuck, fixed_in, stuck_answer, outcome, outcome_by}
 use Rattle.meaning.proofs.FaceVerdictLaws.{bad_face}
@@ -45,17 +46,17 @@ Some i = (n : ℕ) × (p : ℕ) × Given i n p
 -- ---- from a verdict to the answer
 
 -- refused: the verdict's own
-refused : (i : Input) {n p : ℕ} → verdict_of i ≡ Refused n p → Answers i n p
+refused : (i : Input) {r : Refusal} → verdict_of i ≡ Err r → Answers i (number_of r) (place_of r)
 unfolding outcome outcome_by
 refused i e = (ap (λ (d : Verdict). (outcome_by d i).answer.number) e, ap (λ (d : Verdict). (outcome_by d i).answer.place) e)
 
 -- copied: 0
-copied : (i : Input) → verdict_of i ≡ Copied → Answers i 0 0
+copied : (i : Input) → verdict_of i ≡ Ok Copied → Answers i 0 0
 unfolding outcome outcome_by
 copied i e = (ap (λ (d : Verdict). (outcome_by d i).answer.number) e, ap (λ (d : Verdict). (outcome_by d i).answer.place) e)
 
 -- walked with no fold made: 10 or 11
-stuck-answers : (i : Input) → verdict_of i ≡ Admitted → stuck i ≡ true → Answers i (stuck_answer (fixed_in i) (closed_walked i)).number (stuck_answer (fixed_in i) (closed_walked i)).place
+stuck-answers : (i : Input) → verdict_of i ≡ Ok Admitted → stuck i ≡ true → Answers i (stuck_answer (fixed_in i) (closed_walked i)).number (stuck_answer (fixed_in i) (closed_walked i)).place
 unfolding outcome outcome_by
 stuck-answers i e t = (rw (e, t), rw (e, t))
 
@@ -67,13 +68,13 @@ fixed_counted i =
     (points_in i) (λ x h. ap (λ (b : Bool). cond b 1 0) (kind-fixed i x))
 
 -- walked: 0
-thinned-answers : (i : Input) → verdict_of i ≡ Admitted → stuck i ≡ false → Answers i 0 0
+thinned-answers : (i : Input) → verdict_of i ≡ Ok Admitted → stuck i ≡ false → Answers i 0 0
 unfolding outcome outcome_by
 thinned-answers i e t = (rw (e, t), rw (e, t))
 
 -- ---- the walk of an input that is not refused
 
-module _ (i : Input) (admitted : verdict_of i ≡ Admitted) where
+module _ (i : Input) (admitted : verdict_of i ≡ Ok Admitted) where
   -- it comes to its end, with the folds that the outcome has
   ends : WalkEnds i (folds_walked i)
   unfolding folds_walked

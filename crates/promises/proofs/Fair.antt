@@ -17,7 +17,7 @@ use Rattle.walk.specs.declared.Face.{Face}
 use Rattle.walk.specs.declared.Pair.{Pair}
 use Rattle.walk.specs.Faces.{holds, both, shared, common, renamed_face, Mesh, data_of}
 use Rattle.walk.specs.Fold.{folded_faces, folded_mesh}
-use Rattle.walk.specs.declared.Tested.TheVariants.{Allowed}
+use Rattle.std.specs.Prelude.{Ok}
 use Rattle.walk.specs.FoldTest.{fold_test}
 use Rattle.walk.specs.Walk.{State, StepAnswer, folded, after, plain_machine}
 use Rattle.walk.proofs.FaceLaws.{holds-gone}
@@ -26,7 +26,8 @@ use Rattle.walk.proofs.FoldLaws.{fold-exact}
 use Rattle.walk.proofs.StepLaws.{answer-folded}
 use Rattle.walk.proofs.MachineLaws.{walk-last}
 use Rattle.walk.proofs.FairLaws as fair
-use Rattle.meaning.specs.declared.Verdict.TheVariants.{Admitted}
+use Rattle.std.specs.Prelude.{Ok}
+use Rattle.meaning.specs.declared.Task.TheVariants.{Admitted}
 use Rattle.meaning.specs.Input.{Input, points_in}
 use Rattle.meaning.specs.Answers.{verdict_of}
 use Rattle.meaning.specs.Arithmetic.{tiny, hundredth, rules_of, squashed_points, turned_points, squashed_normals, turned_normals}
@@ -47,9 +48,9 @@ mesh-after i n p e =
     ap (λ (s : State Vertex). s.mesh) (walk-last (plain_machine (rules_in i) (target_of i)) n (start_of i))
     ∙ ap (λ (a : StepAnswer). (after (rules_in i) (state_at i n) a).mesh) e
 
-module _ (i : Input) (admitted : verdict_of i ≡ Admitted) (n : ℕ) (p : Pair) (is-folded : answer_at i n ≡ folded p) where
+module _ (i : Input) (admitted : verdict_of i ≡ Ok Admitted) (n : ℕ) (p : Pair) (is-folded : answer_at i n ≡ folded p) where
   -- what the answer tells: the pair is open, and its fold is allowed
-  told : is_open_pair (state_at i n) p × (fold_test (rules_in i) (state_at i n).mesh p ≡ Allowed)
+  told : is_open_pair (state_at i n) p × (fold_test (rules_in i) (state_at i n).mesh p ≡ Ok tt)
   told = answer-folded (rules_in i) (target_of i) (state_at i n) p is-folded
 
   -- keep and remove are two points

@@ -7,6 +7,7 @@ use mathlib.Core.List.{List, [], ◌∷◌}
 use mathlib.Core.Bool.{true, ◌&&◌}
 use mathlib.Mathlib.Data.Bool.Basic.{and_elim_left, and_elim_right}
 use lib.Ieee.{Float, nan, of_bits}
+use Rattle.std.specs.Prelude.{Option}
 use Rattle.units.specs.declared.Unit.{Unit}
 use Rattle.units.specs.declared.Unit.TheVariants.{Millimetre, Micrometre}
 use Rattle.units.specs.Units.{unit_number, unit_bound, unit_of}
@@ -16,19 +17,18 @@ use Rattle.lists.proofs.TestLaws.{by-test}
 use Rattle.lists.proofs.EveryLaws.{every-at, every-default, every_set}
 use Rattle.lists.proofs.BelowLaws.{every-below}
 use Rattle.placement.specs.declared.pair.Vertex.{Vertex}
-use Rattle.placement.specs.declared.Limit.{Limit}
 use Rattle.placement.specs.Pairs.{pair_place}
 use Rattle.walk.specs.Faces.{Mesh, data_of, merged_of}
 use Rattle.walk.specs.Fold.{folded_mesh}
 use Rattle.walk.specs.Walk.{walk, State, StepAnswer, folded, closed, ended, answer, after, plain_machine, started}
 use Rattle.walk.specs.Output.{used}
 use Rattle.walk.proofs.MachineLaws.{walk-keeps}
-use Rattle.meaning.specs.declared.Verdict.{Verdict}
-use Rattle.meaning.specs.declared.Verdict.TheVariants.{Refused, Copied, Admitted}
+use Rattle.std.specs.Prelude.{Ok, Err}
+use Rattle.meaning.specs.declared.Task.TheVariants.{Copied, Admitted}
 use Rattle.meaning.specs.Arithmetic.{merged_vertex, rules_of}
 use Rattle.meaning.specs.Start.{start_mesh}
 use Rattle.meaning.specs.Input.{Input, points_in, point_at, bound_in}
-use Rattle.meaning.specs.Answers.{verdict_of}
+use Rattle.meaning.specs.Answers.{Verdict, verdict_of}
 use Rattle.meaning.specs.declared.Options.{Options}
 use Rattle.meaning.specs.Call.{Lent, input_of}
 use Rattle.meaning.specs.Outcome.{rules_in, start_of, target_of, last_mesh, parts_in, outcome, outcome_by, stuck}
@@ -64,7 +64,7 @@ power-most i = unit-power-most (unit_of i.options.unit)
 -- ---- the walk
 
 -- the rules with a bound that is a power of two
-module _ (limit : Limit) {bound : Float} (b : ℕ) (fits : b ≤ 126) (is-power : bound ≡ power b) where
+module _ (limit : Option Float) {bound : Float} (b : ℕ) (fits : b ≤ 126) (is-power : bound ≡ power b) where
   -- what no number names
   blank-small : small_vertex bound (rules_of limit bound).blank ≡ true
   unfolding rules_of
@@ -120,12 +120,12 @@ module _ (i : Input) where
   power-fits = omega (arith, power-most i)
 
   -- after any number of steps every coordinate of every point is finite and at most the bound in size
-  pub walk-finite : verdict_of i ≡ Admitted → (n : ℕ) → SmallMesh (bound_in i) (state_at i n).mesh
+  pub walk-finite : verdict_of i ≡ Ok Admitted → (n : ℕ) → SmallMesh (bound_in i) (state_at i n).mesh
   walk-finite admitted n =
       walk-small i.options.limit (power_within i) power-fits (power_in i) (target_of i) n (start_of i) (start_small i (passed i admitted).coordinates_small)
 
   -- and so in the mesh at the end
-  pub last-finite : verdict_of i ≡ Admitted → SmallMesh (bound_in i) (last_mesh i)
+  pub last-finite : verdict_of i ≡ Ok Admitted → SmallMesh (bound_in i) (last_mesh i)
   unfolding last_mesh
   last-finite admitted = walk-finite admitted _
 
@@ -150,9 +150,9 @@ module _ (i : Input) where
   outcome-finite = by-verdict (verdict_of i) refl
     where
       by-verdict : (w : Verdict) → verdict_of i ≡ w → every (small (bound_in i)) (outcome_by w i).points ≡ true
-      by-verdict (Refused number place) e = refl
-      by-verdict Copied e = checked-small (checked i Copied refl e)
-      by-verdict Admitted e =
+      by-verdict (Err why) e = refl
+      by-verdict (Ok Copied) e = checked-small (checked i (Ok Copied) refl e)
+      by-verdict (Ok Admitted) e =
           by-test (stuck i)
           (λ t. rw t)
           (λ t. rw t (parts-small (last_mesh i) (last-finite e) (used [] (last_mesh i).faces)))

@@ -28,7 +28,8 @@ use Rattle.walk.proofs.StillLaws.{held-apart, walk-still}
 use Rattle.walk.proofs.PlaceLaws.{place-below, get_d-place}
 use Rattle.walk.proofs.RenumberLaws.{used-held}
 use Rattle.meaning.specs.declared.Answer.{Answer}
-use Rattle.meaning.specs.declared.Verdict.TheVariants.{Admitted}
+use Rattle.std.specs.Prelude.{Ok}
+use Rattle.meaning.specs.declared.Task.TheVariants.{Admitted}
 use Rattle.meaning.specs.Input.{Input, points_in, point_at, bound_in}
 use Rattle.meaning.specs.Answers.{verdict_of}
 use Rattle.meaning.specs.Arithmetic.{rules_of}
@@ -49,7 +50,7 @@ stuck-not : (points : ℕ) (closed : Closings) → (stuck_answer points closed).
 stuck-not points closed e = by-test (ltb 0 points) (λ t. omega (arith, rw t at e)) (λ t. omega (arith, rw t at e))
 
 -- where the answer is 0, the outcome is the thinned mesh
-pub thinned-is : (i : Input) → verdict_of i ≡ Admitted → (outcome i).answer.number ≡ 0 → outcome i ≡ thinned_outcome i
+pub thinned-is : (i : Input) → verdict_of i ≡ Ok Admitted → (outcome i).answer.number ≡ 0 → outcome i ≡ thinned_outcome i
 unfolding outcome outcome_by
 thinned-is i admitted done =
     by-test (stuck i)
@@ -92,7 +93,7 @@ pub border-fixed : (i : Input) (x : ℕ) → i.options.preserve ≡ true → bor
 border-fixed i x preserved border =
     or_inr (in_margin i.margin x) (i.options.preserve && border_point (points_in i) (given_faces i) x) (and_intro preserved border)
 
-module _ (i : Input) (admitted : verdict_of i ≡ Admitted) (x : ℕ) (is-fixed : fixed_point i x ≡ true) where
+module _ (i : Input) (admitted : verdict_of i ≡ Ok Admitted) (x : ℕ) (is-fixed : fixed_point i x ≡ true) where
   -- it is a point that there is
   pub fixed-below : x < points_in i
   fixed-below =
@@ -160,7 +161,7 @@ module _ (i : Input) (admitted : verdict_of i ≡ Admitted) (x : ℕ) (is-fixed 
 
 -- ---- in so many words of the margin, whatever preserve is
 
-module _ (i : Input) (admitted : verdict_of i ≡ Admitted) (x : ℕ) (named : in_margin i.margin x ≡ true) where
+module _ (i : Input) (admitted : verdict_of i ≡ Ok Admitted) (x : ℕ) (named : in_margin i.margin x ≡ true) where
   -- a point that the margin names is after every step where the input has it
   pub margin-point-same : (n : ℕ) → (carried i n x).point ≡ point_at i.points x
   margin-point-same = fixed-point-same i admitted x (margin-fixed i x named)

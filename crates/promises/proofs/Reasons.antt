@@ -18,7 +18,7 @@ use Rattle.walk.specs.declared.Closings.{Closings}
 use Rattle.walk.specs.declared.Face.{Face}
 use Rattle.walk.specs.declared.Pair.{Pair}
 use Rattle.walk.specs.declared.Reason.{Reason}
-use Rattle.walk.specs.declared.Tested.TheVariants.{Allowed, Not}
+use Rattle.std.specs.Prelude.{Ok, Err}
 use Rattle.walk.specs.Faces.{face_at, Mesh}
 use Rattle.walk.specs.FoldTest.{linked, harm, first_harm, face_test}
 use Rattle.walk.specs.Walk.{closed, ended, started, reason_of, plain_machine}
@@ -29,10 +29,11 @@ use Rattle.walk.proofs.WalkLaws.{walk-tries, walk-unfolded}
 use Rattle.walk.proofs.FairLaws.{harmless, harmed-why, not-allowed}
 use Rattle.walk.proofs.FirstLaws.{live-found}
 use Rattle.walk.proofs.NumberLaws.{Numbered, member-live, start-numbered, walk-numbered}
-use Rattle.meaning.specs.declared.Verdict.{Verdict}
-use Rattle.meaning.specs.declared.Verdict.TheVariants.{Refused, Copied, Admitted}
+use Rattle.std.specs.Prelude.{Ok, Err}
+use Rattle.meaning.specs.declared.Refusal.{Refusal}
+use Rattle.meaning.specs.declared.Task.TheVariants.{Copied, Admitted}
 use Rattle.meaning.specs.Input.{Input, faces_in}
-use Rattle.meaning.specs.Answers.{verdict_of}
+use Rattle.meaning.specs.Answers.{Verdict, verdict_of}
 use Rattle.meaning.specs.Arithmetic.{rules_of, squashed_points, turned_points}
 use Rattle.meaning.specs.Start.{start_mesh}
 use Rattle.meaning.specs.Outcome.{rules_in, start_of, target_of, folds_walked, closed_walked, stuck, fixed_in, outcome, outcome_by}
@@ -99,7 +100,7 @@ module _ (i : Input) (n : ℕ) (p : Pair) where
   -- a live face that holds just one of the two, with none harmed below it
   lowest-harmed :
       (k : ℕ) → k < faces_in i → (numbered i n).alive k ≡ true → holds_one p (face_now i n k) ≡ true
-      → ((j : ℕ) → j < k → (numbered i n).alive j ≡ true → face_test (rules_in i) (state_at i n).mesh p j (face_now i n j) ≡ Allowed)
+      → ((j : ℕ) → j < k → (numbered i n).alive j ≡ true → face_test (rules_in i) (state_at i n).mesh p j (face_now i n j) ≡ Ok tt)
       → LowestHarmed i n p k
   lowest-harmed k small live one lower =
       record {
@@ -113,7 +114,7 @@ module _ (i : Input) (n : ℕ) (p : Pair) where
 
   -- so a reason that the faces give, where the points are linked, is that of the lowest face harmed
   harmed-true :
-      (reason : Reason) → linked_at i n p ≡ true → first_harm (face_test (rules_in i) (state_at i n).mesh p) (faces_at i n) (numbers_at i n) ≡ Not reason
+      (reason : Reason) → linked_at i n p ≡ true → first_harm (face_test (rules_in i) (state_at i n).mesh p) (faces_at i n) (numbers_at i n) ≡ Err reason
       → ReasonTrue i n p reason
   harmed-true reason are-linked e =
       let (k, small, live, here, lower) =
@@ -126,7 +127,7 @@ module _ (i : Input) (n : ℕ) (p : Pair) where
       why
 
 -- A pair that was closed after n steps was closed for what is so there.
-pub reason-true : (i : Input) → verdict_of i ≡ Admitted → (n : ℕ) (p : Pair) (reason : Reason) → answer_at i n ≡ closed p reason → ReasonTrue i n p reason
+pub reason-true : (i : Input) → verdict_of i ≡ Ok Admitted → (n : ℕ) (p : Pair) (reason : Reason) → answer_at i n ≡ closed p reason → ReasonTrue i n p reason
 reason-true i admitted n p reason e =
     let same : linked_at i n p ≡ linked (length (state_at i n).mesh.points) (faces_at i n) p.keep p.remove =
     ap (λ (v : ℕ). linked v (faces_at i n) p.keep p.remove) (sym (states-points i admitted n)) in
@@ -158,7 +159,7 @@ unfolding closed_walked
 counts-sum i = sum-of-closings (reasons_to i (budget_of i))
 
 -- where nothing was folded, they sum to the number of pairs opened at the start: each was tried and closed, as no pair is open at the end
-pub counts-say-why : (i : Input) → verdict_of i ≡ Admitted → stuck i ≡ true →
+pub counts-say-why : (i : Input) → verdict_of i ≡ Ok Admitted → stuck i ≡ true →
     (closed_walked i).unlinked + (closed_walked i).squashed + (closed_walked i).turned ≡ length (start_of i).«open»
 unfolding folds_walked
 counts-say-why i admitted is_stuck =
@@ -174,16 +175,16 @@ counts-say-why i admitted is_stuck =
 -- ---- the counts in the answer
 
 -- none where the input is refused, which `early-none` of Refused.antt says by its number, or copied
-pub closed-zero-refused : (i : Input) {number place : ℕ} → verdict_of i ≡ Refused number place → (outcome i).answer.closed ≡ none_closed
+pub closed-zero-refused : (i : Input) {r : Refusal} → verdict_of i ≡ Err r → (outcome i).answer.closed ≡ none_closed
 unfolding outcome outcome_by
 closed-zero-refused i e = ap (λ (d : Verdict). (outcome_by d i).answer.closed) e
 
-pub closed-zero-copied : (i : Input) → verdict_of i ≡ Copied → (outcome i).answer.closed ≡ none_closed
+pub closed-zero-copied : (i : Input) → verdict_of i ≡ Ok Copied → (outcome i).answer.closed ≡ none_closed
 unfolding outcome outcome_by
 closed-zero-copied i e = ap (λ (d : Verdict). (outcome_by d i).answer.closed) e
 
 -- and those of the walk where it is admitted, whatever the number of the answer
-pub closed-walked : (i : Input) → verdict_of i ≡ Admitted → (outcome i).answer.closed ≡ closed_walked i
+pub closed-walked : (i : Input) → verdict_of i ≡ Ok Admitted → (outcome i).answer.closed ≡ closed_walked i
 unfolding outcome outcome_by
 closed-walked i e =
     ap (λ (d : Verdict). (outcome_by d i).answer.closed) e

@@ -8,10 +8,11 @@ use mathlib.Core.List.{[]}
 use mathlib.Core.Bool.{Bool, true, false, not, ◌&&◌, ◌||◌, false≢true}
 use lib.Dec.{leb, ltb, eqb}
 use Rattle.lists.proofs.TestLaws.{by-test}
-use Rattle.meaning.specs.declared.Verdict.{Verdict}
-use Rattle.meaning.specs.declared.Verdict.TheVariants.{Refused, Copied, Admitted}
+use Rattle.std.specs.Prelude.{Ok, Err}
+use Rattle.meaning.specs.declared.Refusal.{Refusal}
+use Rattle.meaning.specs.declared.Task.TheVariants.{Copied, Admitted}
 use Rattle.meaning.specs.Input.{Input}
-use Rattle.meaning.specs.Answers.{verdict_of}
+use Rattle.meaning.specs.Answers.{Verdict, verdict_of}
 use Rattle.meaning.specs.Outcome.{stuck, fixed_in, Outcome, outcome, outcome_by}
 use Rattle.walk.specs.Closings.{none_closed}
 use Rattle.promises.specs.Table.{Given, row-1, row-2, row-3, row-4, row-5, row-6, row-24, row-7, row_zero, row-8, row-9, row-12, row-10, row-11, row-0}
@@ -31,9 +32,9 @@ pub record Nothing (o : Outcome) : Type 0 where
 -- by the verdict
 nothing-by : (d : Verdict) (i : Input) → (outcome_by d i).answer.number ≢ 0 → Nothing (outcome_by d i)
 unfolding outcome_by
-nothing-by (Refused n p) i not-zero = record { no_points = refl; no_faces = refl; no_folds = refl; points_kept = refl; faces_kept = refl }
-nothing-by Copied i not-zero = absurd (not-zero refl)
-nothing-by Admitted i not-zero =
+nothing-by (Err why) i not-zero = record { no_points = refl; no_faces = refl; no_folds = refl; points_kept = refl; faces_kept = refl }
+nothing-by (Ok Copied) i not-zero = absurd (not-zero refl)
+nothing-by (Ok Admitted) i not-zero =
     by-test (stuck i)
     (λ t. by-test (ltb 0 (fixed_in i))
     (λ b. rw (t, b) (record { no_points = refl; no_faces = refl; no_folds = refl; points_kept = refl; faces_kept = refl }))
@@ -57,16 +58,16 @@ unfolding outcome
 worked-by i e = ap (λ (d : Verdict). (outcome_by d i).worked) e
 
 -- not where it is refused
-refused-untouched : {n p : ℕ} (i : Input) → verdict_of i ≡ Refused n p → (outcome i).worked ≡ false
+refused-untouched : {r : Refusal} (i : Input) → verdict_of i ≡ Err r → (outcome i).worked ≡ false
 unfolding outcome_by
 refused-untouched i e = worked-by i e
 
 -- and where it is copied or walked
-copied-worked : (i : Input) → verdict_of i ≡ Copied → (outcome i).worked ≡ true
+copied-worked : (i : Input) → verdict_of i ≡ Ok Copied → (outcome i).worked ≡ true
 unfolding outcome_by
 copied-worked i e = worked-by i e
 
-admitted-worked : (i : Input) → verdict_of i ≡ Admitted → (outcome i).worked ≡ true
+admitted-worked : (i : Input) → verdict_of i ≡ Ok Admitted → (outcome i).worked ≡ true
 unfolding outcome_by
 admitted-worked i e = worked-by i e ∙ by-test (stuck i) (λ t. rw t) (λ t. rw t)
 
@@ -98,9 +99,9 @@ module _ (i : Input) where
 -- none where the memory was not worked in
 untouched-none : (d : Verdict) (i : Input) → (outcome_by d i).worked ≡ false → (outcome_by d i).answer.closed ≡ none_closed
 unfolding outcome_by
-untouched-none (Refused n p) i e = refl
-untouched-none Copied i e = absurd (false≢true (sym e))
-untouched-none Admitted i e = by-test (stuck i) (λ t. absurd (false≢true (sym (rw t at e)))) (λ t. absurd (false≢true (sym (rw t at e))))
+untouched-none (Err why) i e = refl
+untouched-none (Ok Copied) i e = absurd (false≢true (sym e))
+untouched-none (Ok Admitted) i e = by-test (stuck i) (λ t. absurd (false≢true (sym (rw t at e)))) (λ t. absurd (false≢true (sym (rw t at e))))
 
 -- so on the early numbers all three counts are zero
 pub early-none : (i : Input) → early (outcome i).answer.number ≡ true → (outcome i).answer.closed ≡ none_closed
@@ -108,13 +109,13 @@ unfolding outcome
 early-none i is = untouched-none (verdict_of i) i (worked-exactly-when i ∙ ap not is)
 
 -- a number that is not 0, with the memory worked in, is told where the walk is stuck
-worked-stuck : (d : Verdict) (i : Input) → (outcome_by d i).answer.number ≢ 0 → (outcome_by d i).worked ≡ true → (d ≡ Admitted) × (stuck i ≡ true)
+worked-stuck : (d : Verdict) (i : Input) → (outcome_by d i).answer.number ≢ 0 → (outcome_by d i).worked ≡ true → (d ≡ Ok Admitted) × (stuck i ≡ true)
 unfolding outcome_by
-worked-stuck (Refused n p) i other e = absurd (false≢true e)
-worked-stuck Copied i other e = absurd (other refl)
-worked-stuck Admitted i other e = by-test (stuck i) (λ t. (refl, t)) (λ t. absurd (other (rw t)))
+worked-stuck (Err why) i other e = absurd (false≢true e)
+worked-stuck (Ok Copied) i other e = absurd (other refl)
+worked-stuck (Ok Admitted) i other e = by-test (stuck i) (λ t. (refl, t)) (λ t. absurd (other (rw t)))
 
 -- so 10 and 11 are told of an input that is admitted, and whose walk is stuck
-pub late-stuck : (i : Input) → early (outcome i).answer.number ≡ false → (outcome i).answer.number ≢ 0 → (verdict_of i ≡ Admitted) × (stuck i ≡ true)
+pub late-stuck : (i : Input) → early (outcome i).answer.number ≡ false → (outcome i).answer.number ≢ 0 → (verdict_of i ≡ Ok Admitted) × (stuck i ≡ true)
 unfolding outcome
 late-stuck i late other = worked-stuck (verdict_of i) i other (worked-exactly-when i ∙ ap not late)

@@ -13,12 +13,12 @@ use lib.ListN.{length, get_or, set, length-set}
 use lib.Seq.{get_or-set_same, get_or-set_other}
 use lib.Ieee.{Float, binary64}
 use borrow.Author.Tests.{eqb-true, eqb-false, eq-eqb, ne_eqb, not-true}
+use Rattle.std.specs.Prelude.{Option}
 use Rattle.lists.specs.Lists.{sum, count, those, below}
 use Rattle.lists.proofs.TestLaws.{by-test, clash, flag_true}
 use Rattle.lists.proofs.SumLaws.{sum-map, sum_same, sum_mono, witness}
 use Rattle.lists.proofs.EveryLaws.{count-mono, count-those-le}
 use Rattle.lists.proofs.BelowLaws.{sum-changed, sum-single}
-use Rattle.placement.specs.declared.Limit.{Limit}
 use Rattle.placement.specs.declared.pair.Vertex.{Vertex}
 use Rattle.placement.specs.Pairs.{pair_quadric}
 use Rattle.walk.specs.declared.Face.{Face}
@@ -98,7 +98,7 @@ abbrev pub planes_most : ℕ
 planes_most = 393216
 
 -- the rules of a limit and a bound
-module _ (limit : Limit) (bound : Float) where
+module _ (limit : Option Float) (bound : Float) where
   -- the weights of the points, with their sum, and the quadrics of the points that live faces hold
   pub record Weighed (m : Mesh Vertex) : Type 0 where
     pub weight : ℕ → ℕ

@@ -20,7 +20,8 @@ use Rattle.walk.specs.declared.Face.{Face}
 use Rattle.walk.specs.Faces.{holds, proper, face_at, faces_of}
 use Rattle.walk.specs.Walk.{started}
 use Rattle.walk.proofs.FaceLaws.{corners}
-use Rattle.meaning.specs.declared.Verdict.TheVariants.{Admitted}
+use Rattle.std.specs.Prelude.{Ok}
+use Rattle.meaning.specs.declared.Task.TheVariants.{Admitted}
 use Rattle.meaning.specs.Input.{Input, points_in, faces_in, point_at, bound_in}
 use Rattle.meaning.specs.Start.{face_quadric, gathered, start_vertex, start_mesh}
 use Rattle.meaning.specs.Answers.{verdict_of}
@@ -91,7 +92,7 @@ module _ (points : List Float) (v : ℕ) (near : (x : ℕ) → x < v → Within 
 
 -- ---- the start of an admitted mesh
 
-module _ (i : Input) (admitted : verdict_of i ≡ Admitted) where
+module _ (i : Input) (admitted : verdict_of i ≡ Ok Admitted) where
   -- its points are at most 2^20 in size
   start-near : (x : ℕ) → x < points_in i → Within 1 20 (point_at i.points x)
   start-near x inside =

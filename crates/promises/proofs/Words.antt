@@ -10,13 +10,12 @@ use lib.Dec.{ltb, leb, eqb}
 use lib.ListN.{length, get_or}
 use lib.Ieee.{Float, nan, inf, fin, is_nan, lt, le, eq, neg, of_bits}
 use lib.Ieee.Scale.{finite}
+use Rattle.std.specs.Prelude.{Option, Some, None}
 use Rattle.bits.specs.Cut.{zero_float, one_float}
 use Rattle.bits.proofs.FloatOrder.{le_total}
 use Rattle.units.specs.declared.Unit.{Unit}
 use Rattle.units.specs.declared.Unit.TheVariants.{Millimetre, Micrometre}
 use Rattle.units.specs.Units.{unit_bound, unit_of}
-use Rattle.placement.specs.declared.Limit.{Limit}
-use Rattle.placement.specs.declared.Limit.TheVariants.{Unlimited, AtMost}
 use Rattle.walk.specs.Faces.{face_at}
 use Rattle.meaning.specs.Input.{Input, points_in, faces_in, bound_in}
 use Rattle.meaning.specs.Answers.{uneven, large, short, empty, bad_ratio, bad_limit, bad_unit, bad_coordinate, outside, doubled, bad_entry}
@@ -82,13 +81,13 @@ says-ratio i =
     says_same (says-or (says-itself (is_nan r)) (says-or (says-itself (lt r zero_float)) (says-itself (lt one_float r)))) (ratio-is r)
 
 -- 6: length limit is NaN
-says-limit-is : (limit : Limit) → Says ((most : Float) × (limit ≡ AtMost most) × (is_nan most ≡ true)) (bad_limit limit)
-says-limit-is Unlimited = record { holds = λ t. absurd (false≢true t); passes = λ p. let (most, e, n) = p in absurd (false≢true (ap is_limited e)) }
+says-limit-is : (limit : Option Float) → Says ((most : Float) × (limit ≡ Some most) × (is_nan most ≡ true)) (bad_limit limit)
+says-limit-is None = record { holds = λ t. absurd (false≢true t); passes = λ p. let (most, e, n) = p in absurd (false≢true (ap is_limited e)) }
   where
-    is_limited : Limit → Bool
-    is_limited Unlimited = false
-    is_limited (AtMost most) = true
-says-limit-is (AtMost most) = record { holds = λ t. (most, refl, t); passes = λ p. let (other, e, n) = p in ap bad_limit e ∙ n }
+    is_limited : Option Float → Bool
+    is_limited None = false
+    is_limited (Some most) = true
+says-limit-is (Some most) = record { holds = λ t. (most, refl, t); passes = λ p. let (other, e, n) = p in ap bad_limit e ∙ n }
 
 pub says-limit : (i : Input) → Says (BadLimit i) (bad_limit i.options.limit)
 says-limit i = says-limit-is i.options.limit

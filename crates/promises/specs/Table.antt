@@ -1,12 +1,11 @@
 -- Document 01's table of answers with document 02's changes, row by row and in its words. `Given i n p` says that the table gives the input i the number n
 -- with the place p.
 -- It names neither `verdict_of` nor `outcome`, which the code is held to; proofs/ExactlyWhen.antt shows that they agree with it.
-use Rattle.std.specs.Prelude.{ℕ, suc, ◌+◌, ◌*◌, ◌%◌, ◌≤◌, ◌<◌, ◌≡◌, ◌≢◌, ◌⊎◌, List, [], true, false, length, get_or, Float}
+use Rattle.std.specs.Prelude.{ℕ, suc, ◌+◌, ◌*◌, ◌%◌, ◌≤◌, ◌<◌, ◌≡◌, ◌≢◌, ◌⊎◌, List, [], true, false, length, get_or, Float, Some}
 use Rattle.std.specs.Float.{nan}
 use Rattle.std.specs.Float.Ieee.{is_nan, lt, eq, neg}
 use Rattle.std.specs.Float.Ieee.Scale.{finite}
 use Rattle.bits.specs.Cut.{zero_float, one_float}
-use Rattle.placement.specs.declared.Limit.TheVariants.{AtMost}
 use Rattle.walk.specs.declared.Pair.{Pair}
 use Rattle.lists.specs.Lists.{count, below}
 use Rattle.walk.specs.Faces.{face_at}
@@ -46,7 +45,7 @@ BadRatio i = let r = i.options.ratio in (is_nan r ≡ true) ⊎ (lt r zero_float
 
 -- 6: length limit is NaN
 abbrev pub BadLimit : Input → Type 0
-BadLimit i = (most : Float) × (i.options.limit ≡ AtMost most) × (is_nan most ≡ true)
+BadLimit i = (most : Float) × (i.options.limit ≡ Some most) × (is_nan most ≡ true)
 
 -- 24: the unit is neither 1, millimetre, nor 2, micrometre
 abbrev pub BadUnit : Input → Type 0

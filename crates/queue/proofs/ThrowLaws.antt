@@ -23,8 +23,7 @@ use Rattle.queue.specs.Stored.{stamps_of, entries_in, is_old, entry_rank}
 use Rattle.queue.specs.Clauses.Order.{Settled}
 use Rattle.queue.specs.Clauses.Queued.{Queue, Named, QueueNamed, is_present}
 use Rattle.queue.specs.Clauses.Changes.{Were, Fewer, CurrentFirst, ThrownOut, RoomMade, TookCurrent}
-use Rattle.queue.specs.declared.Taken.{Taken}
-use Rattle.queue.specs.declared.Taken.TheVariants.{Found, Empty}
+use Rattle.std.specs.Prelude.{Option, Some, None}
 use Rattle.queue.proofs.HeapLaws.{by-same}
 use Rattle.queue.proofs.HoleLaws.{entries-sum, shuffled-bag}
 use Rattle.queue.proofs.PresentLaws.{present-old, stamps-only, present-only, entries-length, entries-more, entries-same, weighed, open-sum}
@@ -191,9 +190,9 @@ room-already queue few = record { thrown = []; fewer = fewer-none queue; old = r
 
 -- ---- old ones are thrown out, and then the first current one is taken off
 
-took-then : {v f : ℕ} {w : List ℕ} {p q : List Float} {n : ℕ} {gone : List Entry} {w' : List ℕ} {p' q' : List Float} {n' : ℕ} (w'' : List ℕ) (p'' q'' : List Float) (r : Taken) →
+took-then : {v f : ℕ} {w : List ℕ} {p q : List Float} {n : ℕ} {gone : List Entry} {w' : List ℕ} {p' q' : List Float} {n' : ℕ} (w'' : List ℕ) (p'' q'' : List Float) (r : Option (Entry × ℕ)) →
     Fewer v f w p q n gone w' p' q' n' → every (is_old (stamps_of v f w)) gone ≡ true → TookCurrent v f w' p' q' n' w'' p'' q'' r → TookCurrent v f w p q n w'' p'' q'' r
-took-then {v} {f} {w} {p} {q} {n} {gone} {w'} {p'} {q'} {n'} w'' p'' q'' (Found top left) fewer old took =
+took-then {v} {f} {w} {p} {q} {n} {gone} {w'} {p'} {q'} {n'} w'' p'' q'' (Some (top, left)) fewer old took =
     let stamps = stamps-only fewer.only in
     let either : Entry → Bool = λ e. is_old (stamps_of v f w) e || leb (entry_rank top) (entry_rank e) in
     let after : Entry → Bool = λ e. leb (entry_rank top) (entry_rank e) in
@@ -211,7 +210,7 @@ took-then {v} {f} {w} {p} {q} {n} {gone} {w'} {p'} {q'} {n'} w'' p'' q'' (Found 
             (rw stamps at took.least.least);
       };
     }
-took-then {v} {f} {w} {w' = w'} {p'} {q'} {n'} w'' p'' q'' Empty fewer old none =
+took-then {v} {f} {w} {w' = w'} {p'} {q'} {n'} w'' p'' q'' None fewer old none =
     let stamps = stamps-only fewer.only in
     let test = is_old (stamps_of v f w) in
     record {
@@ -220,6 +219,6 @@ took-then {v} {f} {w} {w' = w'} {p'} {q'} {n'} w'' p'' q'' Empty fewer old none 
       old = bag-every fewer.bag test ∙ every-both test _ (entries_in v f w' p' q' n') old (rw stamps at none.old);
     }
 
-pub took-thrown : {v f : ℕ} {w : List ℕ} {p q : List Float} {n : ℕ} {w' : List ℕ} {p' q' : List Float} {n' : ℕ} (w'' : List ℕ) (p'' q'' : List Float) (r : Taken) →
+pub took-thrown : {v f : ℕ} {w : List ℕ} {p q : List Float} {n : ℕ} {w' : List ℕ} {p' q' : List Float} {n' : ℕ} (w'' : List ℕ) (p'' q'' : List Float) (r : Option (Entry × ℕ)) →
     ThrownOut v f w p q n w' p' q' n' → TookCurrent v f w' p' q' n' w'' p'' q'' r → TookCurrent v f w p q n w'' p'' q'' r
 took-thrown w'' p'' q'' r out took = took-then w'' p'' q'' r (thrown-fewer out) (thrown-old out) took

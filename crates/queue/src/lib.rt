@@ -20,13 +20,6 @@ use memory::{Entry, entry_at, set_entry, set_stamp, stamp_at};
 use placement::Fold;
 use walk::Pair;
 
-// What is taken off: a current entry and the number of entries left, or nothing where none was current.
-#[derive(Clone, Copy)]
-pub enum Taken {
-    Found(Entry, usize),
-    Empty,
-}
-
 // Makes every entry of a point old.
 pub fn bump(w: &mut [u32], v: usize, f: usize, x: usize)
     requires fact_1 { x < v }
@@ -69,7 +62,7 @@ pub fn pop(w: &mut [u32], p: &mut [f32], q: &mut [f64], v: usize, f: usize, n: u
     top
 }
 
-// Takes entries off the top up to the first current one.
+// Takes entries off the top up to the first current one. Hands it out with the number of entries left, and nothing where none was current.
 pub fn take_current(
     w: &mut [u32],
     p: &mut [f32],
@@ -77,20 +70,18 @@ pub fn take_current(
     v: usize,
     f: usize,
     n: usize,
-) -> Taken
+) -> Option<(Entry, usize)>
     requires fact_1 { Queue v f w.old p.old q.old n }
     requires fact_2 { QueueNamed v f w.old p.old q.old n }
     ensures { TookCurrent v f w.old p.old q.old n w.new p.new q.new result }
 {
-    let mut left = n;
-    while 0 < left {
-        let top = pop(w, p, q, v, f, left);
-        left -= 1;
+    for left in (0..n).rev() {
+        let top = pop(w, p, q, v, f, left + 1);
         if is_current(w, v, f, top) {
-            return Taken::Found(top, left);
+            return Some((top, left));
         }
     }
-    Taken::Empty
+    None
 }
 
 // Puts the current entries first. Says how many they are. Each entry is written where the next current one goes, and counted where it is current: which ones are
@@ -140,7 +131,7 @@ pub fn take_first(
     f: usize,
     n: usize,
     thin: bool,
-) -> Taken
+) -> Option<(Entry, usize)>
     requires fact_1 { Queue v f w.old p.old q.old n }
     requires fact_2 { QueueNamed v f w.old p.old q.old n }
     ensures { TookCurrent v f w.old p.old q.old n w.new p.new q.new result }

@@ -48,12 +48,11 @@ fn lesser_of(w: &[u32], q: &[f64], v: usize, f: usize, n: usize, i: usize, j: us
     requires fact_4 { i < n }
     ensures { result ≡ lesser_of (rank_in v f w.now q.now) n i j }
 {
-    if j < n {
-        if comes_first(ranked_in(w, q, v, f, j), ranked_in(w, q, v, f, i)) {
-            return j;
-        }
+    if j < n && comes_first(ranked_in(w, q, v, f, j), ranked_in(w, q, v, f, i)) {
+        j
+    } else {
+        i
     }
-    i
 }
 
 // Of the places under one, the first of which is among the n, the one whose entry comes first.
@@ -185,9 +184,7 @@ pub fn settle(w: &mut [u32], p: &mut [f32], q: &mut [f64], v: usize, f: usize, n
     requires fact_2 { n ≤ 3 * f }
     ensures { Settled v f n w.old p.old q.old w.new p.new q.new }
 {
-    let mut lo = (n + 2) / 4;
-    while 0 < lo {
-        lo -= 1;
+    for lo in (0..(n + 2) / 4).rev() {
         let entry = entry_at(w, p, q, v, f, lo);
         sift_down(w, p, q, v, f, lo, n, entry);
     }

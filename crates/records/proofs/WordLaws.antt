@@ -9,7 +9,10 @@ use mathlib.Core.List.{List, [], ◌∷◌, ◌++◌, append_assoc}
 use lib.ListN.{length, get_or, take, drop, length-append}
 use lib.Seq.{drop-cons, drop-drop, get_or-drop, get_or-take, take-suc, take-length}
 use Rattle.lists.specs.Puts.{Put}
-use Rattle.lists.proofs.PutLaws.{none, wider, both}
+use borrow.Rule.Slice.PartMut.{put_mid}
+use Rattle.std.specs.Int.{w32, to_le_bytes}
+use Rattle.std.proofs.lemmas.List.Edits.{sets, sets-eq}
+use Rattle.lists.proofs.PutLaws.{put, none, wider, both}
 use Rattle.records.specs.Words.{two_bytes, four_bytes, numbers_from, as_two, as_four, as_fours}
 
 -- ---- numbers one after another
@@ -124,6 +127,22 @@ module _ (ns : List ℕ) (at : ℕ) (old : List ℕ) where
   all-stored {i} {next} {w} h s =
       let all : i ≡ length ns = omega arith in
       rw (all, take-length) at s.so_far
+
+-- ---- numbers as std writes them
+
+pub four-written : (n : ℕ) → n < 4294967296 → to_le_bytes w32 n ≡ as_four n
+four-written n most =
+    let one : n % 256 ≡ n % 65536 % 256 = omega arith in
+    let two : n / 256 % 256 ≡ n % 65536 / 256 = omega arith in
+    let last : n / 16777216 % 256 ≡ n / 65536 / 256 = omega arith in
+    rw (one, two, last) refl
+
+-- a part of a list that is written over
+pub part-put : {at k : ℕ} {old part run : List ℕ} → part ≡ run → k ≡ length run → at + k ≤ length old → Put k run at old (put_mid at k old part) (at + k)
+part-put {at} {k} {old} {part} {run} is long room =
+    let cells : put_mid at k old run ≡ sets old at run =
+    rw (drop-drop k at old, long) (sym (append_assoc (take at old) run (drop (at + length run) old)) ∙ sym (sets-eq run old at (omega arith))) in
+    rw is (put cells (omega arith) (omega arith))
 
 -- ---- writing what was read
 

@@ -11,19 +11,12 @@ pub const HEAD_LENGTH: usize = 6;
 
 // ---- reading
 
-// A byte as a wider number.
-fn wide(x: u8) -> u32
-    ensures { (result ≡ x) × (result < 256) }
-{
-    x as u32
-}
-
 // The number of two bytes.
 pub fn two_bytes(bytes: &[u8], at: usize) -> u32
     requires { at + 2 ≤ length bytes.now }
     ensures { (result ≡ two_bytes bytes.now at) × (result < 65536) }
 {
-    wide(bytes[at]) + 256 * wide(bytes[at + 1])
+    u32::from(u16::from_le_bytes([bytes[at], bytes[at + 1]]))
 }
 
 // The number of four bytes.
@@ -31,7 +24,7 @@ pub fn four_bytes(bytes: &[u8], at: usize) -> u32
     requires { at + 4 ≤ length bytes.now }
     ensures { result ≡ four_bytes bytes.now at }
 {
-    two_bytes(bytes, at) + 65536 * two_bytes(bytes, at + 2)
+    u32::from_le_bytes([bytes[at], bytes[at + 1], bytes[at + 2], bytes[at + 3]])
 }
 
 // The f32 of four bytes.
@@ -46,12 +39,11 @@ pub fn float_at(bytes: &[u8], at: usize) -> f32
 
 // Writes a number as two bytes.
 pub fn put_two(out: &mut [u8], at: usize, n: u32) -> usize
-    requires fact_1 { n < 65536 }
-    requires fact_2 { at + 2 ≤ length out.old }
+    requires small { n < 65536 }
+    requires room { at + 2 ≤ length out.old }
     ensures { Put 2 (as_two n) at out.old out.new result }
 {
-    out[at] = (n % 256) as u8;
-    out[at + 1] = (n / 256) as u8;
+    out[at..at + 2].copy_from_slice(&(n as u16).to_le_bytes());
     at + 2
 }
 
@@ -60,14 +52,14 @@ pub fn put_four(out: &mut [u8], at: usize, n: u32) -> usize
     requires { at + 4 ≤ length out.old }
     ensures { Put 4 (as_four n) at out.old out.new result }
 {
-    let upper = put_two(out, at, n % 65536);
-    put_two(out, upper, n / 65536)
+    out[at..at + 4].copy_from_slice(&n.to_le_bytes());
+    at + 4
 }
 
 // Writes a record's head: the payload's length and the kind.
 pub fn put_head(out: &mut [u8], at: usize, size: u32, kind: u32) -> usize
-    requires fact_1 { kind < 65536 }
-    requires fact_2 { at + 6 ≤ length out.old }
+    requires small { kind < 65536 }
+    requires room { at + 6 ≤ length out.old }
     ensures { Put 6 (head_bytes size kind) at out.old out.new result }
 {
     let after_size = put_four(out, at, size);

@@ -12,7 +12,7 @@ use lib.Ieee.{Float, nan, of_bits, le, eq}
 use Rattle.lists.specs.Lists.{every}
 use Rattle.lists.proofs.EveryLaws.{every-at}
 use Rattle.records.specs.Words.{numbers_from}
-use Rattle.meaning.specs.declared.Verdict.{Verdict}
+use Rattle.meaning.specs.Answers.{Verdict}
 use Rattle.units.specs.declared.Unit.{Unit}
 use Rattle.units.specs.Units.{unit_number, unit_bound}
 use Rattle.units.proofs.UnitLaws.{unit-of-number, number_known}
@@ -24,7 +24,7 @@ use Rattle.promises.proofs.Finite.{outcome-finite}
 use Rattle.checks.specs.Facts.{Copiable}
 use Rattle.checks.proofs.VerdictLaws.{is-copied}
 use Rattle.scanfile.specs.declared.Head.{Head}
-use Rattle.scanfile.specs.declared.Scan.TheVariants.{Good}
+use Rattle.std.specs.Prelude.{Ok}
 use Rattle.scanfile.specs.Layout.{points_at}
 use Rattle.scanfile.specs.Scans.{scan_of}
 use Rattle.scanfile.specs.Contents.{points_of, face_numbers_of, margin_of}
@@ -98,7 +98,7 @@ module _ {unit : Unit} {points : List Float} {faces : List ℕ} (whole : Whole u
 
 -- ---- what comes out is written, read back and copied
 
-module _ (bytes : List ℕ) (h : Head) (good : scan_of bytes ≡ Good h) where
+module _ (bytes : List ℕ) (h : Head) (good : scan_of bytes ≡ Ok h) where
   -- it is no larger than the file's mesh, and of f32s
   fit : Fit (3 * h.points) (3 * h.faces) (scan_outcome bytes h)
   fit =
@@ -126,7 +126,7 @@ module _ (bytes : List ℕ) (h : Head) (good : scan_of bytes ≡ Good h) where
 
 -- The file that the program writes for a scan is thinned by it to the same mesh, with no fold: the same unit, the same points, the same faces. It must have
 -- a face, which no refusal has: an empty mesh would be refused by 4.
-pub written-again : (wanted : Wanted) (bytes : List ℕ) (h : Head) → scan_of bytes ≡ Good h → 0 < (scan_outcome bytes h).answer.faces →
+pub written-again : (wanted : Wanted) (bytes : List ℕ) (h : Head) → scan_of bytes ≡ Ok h → 0 < (scan_outcome bytes h).answer.faces →
     reply_of wanted (scan_bytes (unit_number h.unit) (scan_outcome bytes h).points (scan_outcome bytes h).faces)
     ≡ mesh (mesh_bytes wanted h.unit 0 (scan_outcome bytes h).points (scan_outcome bytes h).faces) none_closed
 unfolding reply_of reply_by numbers_from

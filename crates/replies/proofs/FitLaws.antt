@@ -13,6 +13,7 @@ use lib.Ieee.{Float, nan, binary32, fits, of_bits}
 use lib.Ieee.Fits.{mul-fits, nan-fits}
 use lib.Ieee.Bits.{is_true, of_bits-fits}
 use denote.Floats.{passes}
+use Rattle.std.specs.Prelude.{Option, Some, None, option_map, unwrap_or}
 use Rattle.lists.specs.Lists.{every, some}
 use Rattle.lists.proofs.TestLaws.{by-test, both_true}
 use Rattle.lists.proofs.EveryLaws.{every-head, every-default, every_set, every-implies, every_map, every-all}
@@ -21,12 +22,11 @@ use Rattle.bits.proofs.NarrowLaws.{narrowed-fits}
 use Rattle.geometry.specs.declared.Point.{Point}
 use Rattle.geometry.specs.declared.Quadric.{Quadric}
 use Rattle.geometry.specs.Points.{middle}
-use Rattle.placement.specs.declared.place.Placement.{Placement}
-use Rattle.placement.specs.declared.place.Placement.TheVariants.{Solved, Unsolved}
+use Rattle.placement.specs.declared.inverse.Rows.{Rows}
 use Rattle.placement.specs.declared.pair.Vertex.{Vertex}
 use Rattle.placement.specs.Errors.{error_at}
 use Rattle.placement.specs.Inverses.{inverse}
-use Rattle.placement.specs.Places.{upper_left, solved, stands, tested, cost_below, cheaper, fallback, point_or, place_of}
+use Rattle.placement.specs.Places.{upper_left, solved_by, solved, stands, tested, cost_below, cheaper, fallback, place_of}
 use Rattle.placement.specs.Pairs.{pair_place}
 use Rattle.walk.specs.declared.Face.{Face}
 use Rattle.walk.specs.Faces.{proper, Mesh, data_of, merged_of}
@@ -37,12 +37,12 @@ use Rattle.walk.proofs.MachineLaws.{walk-keeps}
 use Rattle.walk.proofs.WalkLaws.{walk-fewer}
 use Rattle.walk.proofs.PlaceLaws.{has}
 use Rattle.walk.proofs.RenumberLaws.{corners, used-has, length-used-below}
-use Rattle.meaning.specs.declared.Verdict.{Verdict}
-use Rattle.meaning.specs.declared.Verdict.TheVariants.{Refused, Copied, Admitted}
+use Rattle.std.specs.Prelude.{Ok, Err}
+use Rattle.meaning.specs.declared.Task.TheVariants.{Copied, Admitted}
 use Rattle.meaning.specs.Arithmetic.{merged_vertex, rules_of}
 use Rattle.meaning.specs.Start.{start_mesh}
 use Rattle.meaning.specs.Input.{Input, points_in, faces_in}
-use Rattle.meaning.specs.Answers.{verdict_of}
+use Rattle.meaning.specs.Answers.{Verdict, verdict_of}
 use Rattle.meaning.specs.Outcome.{Outcome, rules_in, start_of, target_of, last_mesh, parts_in, stuck, fixed_in, stuck_answer, thinned_outcome, outcome_by, outcome, closed_walked}
 use Rattle.promises.specs.Steps.{state_at, budget_of}
 use Rattle.promises.proofs.Ended.{start-count, start-sound, states-sound, states-points}
@@ -51,7 +51,7 @@ use Rattle.replies.proofs.OutcomeLaws.{thinned-counted}
 
 -- ---- points of f32s
 
--- a float is an f32, and so is every part of a point, of a point with all that it carries, and of a placement
+-- a float is an f32, and so is every part of a point, of a point with all that it carries, and of a point where there is one
 abbrev pub single : Float → Bool
 single x = fits binary32 x
 
@@ -61,9 +61,9 @@ single_point p = single p.x && single p.y && single p.z
 abbrev single_vertex : Vertex → Bool
 single_vertex v = single_point v.point
 
-abbrev single_placement : Placement → Bool
-single_placement (Solved x y z) = single x && single y && single z
-single_placement Unsolved = true
+abbrev single_found : Option Point → Bool
+single_found (Some p) = single_point p
+single_found None = true
 
 -- three of them
 three-single : (x y z : Float) → T (single x) → T (single y) → T (single z) → (single x && single y && single z) ≡ true
@@ -78,24 +78,24 @@ pub read-single : (ns : List ℕ) → every single (map (of_bits binary32) ns) �
 read-single ns = every_map single (of_bits binary32) ns ∙ every-all (λ n. single (of_bits binary32 n)) (λ n. is_true _ (of_bits-fits binary32 n)) ns
 
 -- the solved point is narrowed
-solved-single : (q : Quadric) → single_placement (solved q) ≡ true
+solved-single : (q : Quadric) → single_found (solved q) ≡ true
 unfolding solved
-solved-single q =
-    by-test (inverse (upper_left q)).exists
-    (λ t. rw t (three-single _ _ _ (narrowed-fits _) (narrowed-fits _) (narrowed-fits _)))
-    (λ t. rw t)
+solved-single q = go (inverse (upper_left q))
+  where
+    go : (rows : Option Rows) → single_found (option_map (solved_by q) rows) ≡ true
+    go (Some r) = three-single _ _ _ (narrowed-fits _) (narrowed-fits _) (narrowed-fits _)
+    go None = refl
 
 -- the middle is a product
 middle-single : (p r : Point) → single_point (middle p r) ≡ true
 middle-single p r = three-single _ _ _ (mul-fits binary32 _ _) (mul-fits binary32 _ _) (mul-fits binary32 _ _)
 
--- a placement that was tested, or another point where it has none
-tested-single : (bound length : Float) (keep other : Point) (placed : Placement) → single_placement placed ≡ true → single_point other ≡ true →
-    single_point (point_or (tested bound length keep placed) other) ≡ true
+-- a solved point that was tested, or another point where there is none
+tested-single : (bound length : Float) (keep other : Point) (found : Option Point) → single_found found ≡ true → single_point other ≡ true →
+    single_point (unwrap_or (tested bound length keep found) other) ≡ true
 unfolding tested
-tested-single bound length keep other Unsolved h k = k
-tested-single bound length keep other (Solved x y z) h k =
-    by-test (stands bound length keep (record { x = x; y = y; z = z })) (λ t. rw t h) (λ t. rw t k)
+tested-single bound length keep other None h k = k
+tested-single bound length keep other (Some p) h k = by-test (stands bound length keep p) (λ t. rw t h) (λ t. rw t k)
 
 -- the cheaper of two points
 cheaper-single : (q : Quadric) (p r : Point) → single_point p ≡ true → single_point r ≡ true → single_point (cheaper q p r) ≡ true
@@ -178,7 +178,7 @@ used-some (f ∷ fs) h =
     let seen = used [] (f ∷ fs) in
     has_some seen f.a (and_elim_left _ _ (and_elim_left _ _ (every-head (corners (has seen)) f fs (used-has [] (f ∷ fs)))))
 
-module _ (i : Input) (admitted : verdict_of i ≡ Admitted) where
+module _ (i : Input) (admitted : verdict_of i ≡ Ok Admitted) where
   -- no more faces than there were
   last-faces : length (last_mesh i).faces ≤ faces_in i
   unfolding last_mesh
@@ -204,7 +204,7 @@ pub record Fit (points faces : ℕ) (o : Outcome) : Type 0 where
 
 module _ (i : Input) (all : every single i.points ≡ true) where
   -- a mesh that was thinned
-  thinned-fit : verdict_of i ≡ Admitted → Fit (length i.points) (length i.faces) (thinned_outcome i)
+  thinned-fit : verdict_of i ≡ Ok Admitted → Fit (length i.points) (length i.faces) (thinned_outcome i)
   thinned-fit admitted =
       let faces = (last_mesh i).faces in
       let sizes = thinned-counted i in
@@ -218,11 +218,11 @@ module _ (i : Input) (all : every single i.points ≡ true) where
   -- by the verdict
   by-verdict : (d : Verdict) → verdict_of i ≡ d → Fit (length i.points) (length i.faces) (outcome_by d i)
   unfolding outcome_by every
-  by-verdict (Refused number place) e = record { points_most = omega arith; faces_most = omega arith; points_some = λ h. h; floats = refl }
-  by-verdict Copied e =
+  by-verdict (Err why) e = record { points_most = omega arith; faces_most = omega arith; points_some = λ h. h; floats = refl }
+  by-verdict (Ok Copied) e =
       let sized = (verdicts.copied i e).sized in
       record { points_most = omega arith; faces_most = omega arith; points_some = λ h. omega (arith, sized.points_some); floats = all }
-  by-verdict Admitted e = by (stuck i)
+  by-verdict (Ok Admitted) e = by (stuck i)
     where
       by : (held : Bool) →
           Fit (length i.points) (length i.faces)

@@ -9,10 +9,10 @@ use lib.Dec.{ltb}
 use lib.ListN.{length}
 use Rattle.walk.specs.Output.{used, renumbered}
 use Rattle.output.proofs.WritingLaws.{length-numbers, length-renumbered}
-use Rattle.meaning.specs.declared.Verdict.{Verdict}
-use Rattle.meaning.specs.declared.Verdict.TheVariants.{Refused, Copied, Admitted}
+use Rattle.std.specs.Prelude.{Ok, Err}
+use Rattle.meaning.specs.declared.Task.TheVariants.{Copied, Admitted}
 use Rattle.meaning.specs.Input.{Input}
-use Rattle.meaning.specs.Answers.{verdict_of}
+use Rattle.meaning.specs.Answers.{Verdict, verdict_of}
 use Rattle.meaning.proofs.PartsLaws.{parts-length}
 use Rattle.checks.proofs.VerdictLaws as verdicts
 use Rattle.walk.specs.declared.Closings.{Closings}
@@ -45,11 +45,11 @@ stuck-counted fixed closed = by (ltb 0 fixed)
 
 by-verdict : (d : Verdict) (i : Input) → verdict_of i ≡ d → Counted (outcome_by d i)
 unfolding outcome_by
-by-verdict (Refused number place) i e = record { points = refl; faces = refl }
-by-verdict Copied i e =
+by-verdict (Err why) i e = record { points = refl; faces = refl }
+by-verdict (Ok Copied) i e =
     let sized = (verdicts.copied i e).sized in
     record { points = sized.points_by_three; faces = sized.faces_by_three }
-by-verdict Admitted i e = by (stuck i)
+by-verdict (Ok Admitted) i e = by (stuck i)
   where
     by : (held : Bool) → Counted (cond held (record { answer = stuck_answer (fixed_in i) (closed_walked i); points = []; faces = []; worked = true }) (thinned_outcome i))
     by true = stuck-counted (fixed_in i) (closed_walked i)

@@ -6,9 +6,8 @@ use mathlib.Core.Path.{◌≡◌, refl, ap, ◌∙◌}
 use mathlib.Core.List.{List}
 use lib.ListN.{take}
 use lib.Seq.{take_all}
-use Rattle.scanfile.specs.declared.Scan.{Scan}
-use Rattle.scanfile.specs.declared.Scan.TheVariants.{Good, Bad}
-use Rattle.scanfile.specs.Scans.{scan_of}
+use Rattle.std.specs.Prelude.{Ok, Err}
+use Rattle.scanfile.specs.Scans.{Scan, scan_of}
 use Rattle.scanfile.proofs.GoodLaws.{good-longest}
 use Rattle.scanfile.proofs.PrefixLaws.{prefix-enough}
 use Rattle.replies.specs.declared.Wanted.{Wanted}
@@ -19,5 +18,5 @@ unfolding reply_of reply_by
 reply-prefix wanted n most bytes = ap (reply_by wanted (take n bytes)) (prefix-enough n most bytes) ∙ by-scan (scan_of bytes) refl
   where
     by-scan : (d : Scan) → scan_of bytes ≡ d → reply_by wanted (take n bytes) d ≡ reply_by wanted bytes d
-    by-scan (Bad number place) e = refl
-    by-scan (Good head) e = ap (λ (read : List ℕ). reply_by wanted read (Good head)) (take_all n bytes (omega (arith, good-longest bytes head e)))
+    by-scan (Err bad) e = refl
+    by-scan (Ok head) e = ap (λ (read : List ℕ). reply_by wanted read (Ok head)) (take_all n bytes (omega (arith, good-longest bytes head e)))

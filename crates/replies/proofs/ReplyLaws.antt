@@ -18,8 +18,7 @@ use Rattle.walk.specs.declared.Closings.{Closings}
 use Rattle.meaning.specs.declared.Answer.{Answer}
 use Rattle.meaning.specs.Call.{Lent, input_of}
 use Rattle.meaning.specs.Outcome.{Outcome}
-use Rattle.listing.specs.declared.Printed.{Printed}
-use Rattle.listing.specs.declared.Printed.TheVariants.{Bytes}
+use Rattle.std.specs.Prelude.{Option, Some, unwrap_or, Result, Ok, Err}
 use Rattle.listing.specs.Texts.{refusal_text, mesh_text, refusal_fits, mesh_fits}
 use Rattle.lists.specs.Lists.{overlaid}
 use Rattle.lists.specs.Puts.{Put}
@@ -32,8 +31,7 @@ use Rattle.records.proofs.WordLaws.{numbers-count}
 use Rattle.scanfile.specs.declared.Head.{Head}
 use Rattle.scanfile.specs.Layout.{points_at, faces_at, margin_at}
 use Rattle.scanfile.specs.Contents.{points_of, face_numbers_of, margin_of}
-use Rattle.scanwriter.specs.declared.Writing.{Writing}
-use Rattle.scanwriter.specs.declared.Writing.TheVariants as writing
+use Rattle.scanwriter.specs.declared.WriteFault.{WriteFault}
 use Rattle.scanwriter.specs.Written.{scan_bytes, scan_room, ScanWritten}
 use Rattle.scanwriter.specs.Clauses.{ScanFits}
 use Rattle.scanwriter.proofs.WritingLaws.{taken}
@@ -43,7 +41,7 @@ use Rattle.replies.specs.declared.Wanted.TheVariants.{Listing, File}
 use Rattle.replies.specs.declared.Reply.{Reply}
 use Rattle.replies.specs.declared.Reply.TheVariants.{Mesh, Refusal}
 use Rattle.replies.specs.Replies.{Told, mesh, refusal, refused, told_bytes, told_by, closed_line, with_why, answer_told, outcome_told, head_options, call_of}
-use Rattle.replies.specs.Clauses.{size_in, size_of, reply_in, Replied, RepliedWhy, Small, Shown}
+use Rattle.replies.specs.Clauses.{size_of, reply_in, Replied, RepliedWhy, Small, Shown}
 use Rattle.replies.proofs.OutcomeLaws.{Counted}
 
 -- ---- replies from what the libraries leave
@@ -54,21 +52,21 @@ record Listed (text old new : List ℕ) (r : ℕ) : Type 0 where
   counted : r ≡ length text
   within : length text ≤ length new
 
-listed : {fits : Bool} {text old new : List ℕ} {l : Printed} {r : ℕ} → fits ≡ true → length text ≤ length old → Prints fits text old new l → r ≡ size_in l →
+listed : {fits : Bool} {text old new : List ℕ} {l : Option ℕ} {r : ℕ} → fits ≡ true → length text ≤ length old → Prints fits text old new l → r ≡ unwrap_or l 0 →
     Listed text old new r
 listed {fits} {text} {old} {new} {l} {r} large room done size =
-    let printed : l ≡ Bytes (length text) = rw large at done.answered in
+    let printed : l ≡ Some (length text) = rw large at done.answered in
     let stands : new ≡ overlaid text old = rw large at done.written in
     let long : length new ≡ length (overlaid text old) = ap length stands in
     record {
       written = stands;
-      counted = size ∙ ap size_in printed;
+      counted = size ∙ ap (λ (o : Option ℕ). unwrap_or o 0) printed;
       within = omega (arith, length-append text (drop (length text) old));
     }
 
 -- a refusal's line
-pub refusal-replied : (wanted : Wanted) (number place : ℕ) (closed : Closings) {old new : List ℕ} {l : Printed} {r : ℕ} → 12288 ≤ length old →
-    Prints (refusal_fits (length old)) (refusal_text number place) old new l → r ≡ size_in l →
+pub refusal-replied : (wanted : Wanted) (number place : ℕ) (closed : Closings) {old new : List ℕ} {l : Option ℕ} {r : ℕ} → 12288 ≤ length old →
+    Prints (refusal_fits (length old)) (refusal_text number place) old new l → r ≡ unwrap_or l 0 →
     Replied wanted (refused number place closed) old new (Refusal r number place closed)
 refusal-replied wanted number place closed {old} room done size =
     let text-short : length (refusal_text number place) ≤ length old = omega (arith, refusal-room number place) in
@@ -82,9 +80,9 @@ refusal-replied wanted number place closed {old} room done size =
     }
 
 -- the listing of a mesh
-pub listing-replied : (unit folds : ℕ) (closed : Closings) (points : List Float) (faces : List ℕ) {old new : List ℕ} {l : Printed} {r : ℕ} → 12288 ≤ length old →
+pub listing-replied : (unit folds : ℕ) (closed : Closings) (points : List Float) (faces : List ℕ) {old new : List ℕ} {l : Option ℕ} {r : ℕ} → 12288 ≤ length old →
     Small points faces →
-    Prints (mesh_fits (length old) (length points / 3) (length faces / 3)) (mesh_text unit folds points faces) old new l → r ≡ size_in l →
+    Prints (mesh_fits (length old) (length points / 3) (length faces / 3)) (mesh_text unit folds points faces) old new l → r ≡ unwrap_or l 0 →
     Replied Listing (mesh (mesh_text unit folds points faces) closed) old new (Mesh r closed)
 listing-replied unit folds closed points faces {old} room small done size =
     let v = length points / 3 in
@@ -115,10 +113,10 @@ small-fits unit room small =
       room = omega arith;
     }
 
-pub file-replied : {unit : ℕ} (closed : Closings) {points : List Float} {faces old new : List ℕ} {w : Writing} {n : ℕ} → ((i : ℕ) → T (fits binary32 (get_or points i nan))) →
-    ScanWritten unit points faces old new w → w ≡ writing.Bytes n → Replied File (mesh (scan_bytes unit points faces) closed) old new (Mesh n closed)
+pub file-replied : {unit : ℕ} (closed : Closings) {points : List Float} {faces old new : List ℕ} {w : Result ℕ WriteFault} {n : ℕ} → ((i : ℕ) → T (fits binary32 (get_or points i nan))) →
+    ScanWritten unit points faces old new w → w ≡ Ok n → Replied File (mesh (scan_bytes unit points faces) closed) old new (Mesh n closed)
 file-replied {unit} closed {points} {faces} {old} {new} {w} {n} floats done is =
-    let whole : ScanWritten unit points faces old new (writing.Bytes n) = rw is at done in
+    let whole : ScanWritten unit points faces old new (Ok n) = rw is at done in
     let count = written_count whole in
     record {
       written = written_over whole;
@@ -131,10 +129,10 @@ file-replied {unit} closed {points} {faces} {old} {new} {w} {n} floats done is =
           (record { unit = unit; points = points; faces = faces; bytes_are = written-bytes whole; back = written_back whole floats });
     }
 
-pub never-refused : (unit : Unit) {points : List Float} {faces old new : List ℕ} {w : Writing} {number place : ℕ} → 12288 ≤ length old → Small points faces →
-    ScanWritten (unit_number unit) points faces old new w → w ≡ writing.Refused number place → ⊥
-never-refused unit {points} {faces} {old} {number = number} {place} room small done is =
-    let same : writing.Bytes (scan_room (length points) (length faces)) ≡ writing.Refused number place =
+pub never-refused : (unit : Unit) {points : List Float} {faces old new : List ℕ} {w : Result ℕ WriteFault} {fault : WriteFault} → 12288 ≤ length old → Small points faces →
+    ScanWritten (unit_number unit) points faces old new w → w ≡ Err fault → ⊥
+never-refused unit {points} {faces} {old} {fault = fault} room small done is =
+    let same : ◌≡◌ {A = Result ℕ WriteFault} (Ok (scan_room (length points) (length faces))) (Err fault) =
     sym (taken (small-fits unit {points = points} {faces = faces} {out = old} room small)) ∙ sym done.answered ∙ is in
     let z : ◌≡◌ {A = ℕ} 0 1 = cc in
     omega arith

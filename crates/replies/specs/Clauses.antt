@@ -4,19 +4,12 @@ use Rattle.lists.specs.Lists.{overlaid}
 use Rattle.meaning.specs.declared.Answer.{Answer}
 use Rattle.scanwriter.specs.Written.{scan_bytes}
 use Rattle.scanwriter.specs.Back.{ReadBack}
-use Rattle.listing.specs.declared.Printed.{Printed}
-use Rattle.listing.specs.declared.Printed.TheVariants.{Bytes, NoRoom}
 use Rattle.walk.specs.declared.Closings.{Closings}
 use Rattle.replies.specs.declared.Wanted.{Wanted}
 use Rattle.replies.specs.declared.Wanted.TheVariants.{Listing, File}
 use Rattle.replies.specs.declared.Reply.{Reply}
 use Rattle.replies.specs.declared.Reply.TheVariants.{Mesh, Refusal}
 use Rattle.replies.specs.Replies.{Told, mesh, refusal, told_bytes, with_why}
-
--- how many bytes a listing took
-abbrev pub size_in : Printed → ℕ
-size_in (Bytes n) = n
-size_in NoRoom = 0
 
 -- bytes are a scan file: the one of a unit, points and faces, which the reader finds in it
 pub record IsScan (bytes : List ℕ) : Type 0 where

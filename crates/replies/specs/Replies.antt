@@ -1,5 +1,5 @@
 -- What the program makes of any bytes that it reads: the listing or the file of the thinned mesh, or a refusal.
-use Rattle.std.specs.Prelude.{ℕ, zero, suc, List, ◌++◌, Float}
+use Rattle.std.specs.Prelude.{ℕ, zero, suc, List, ◌++◌, Float, Ok, Err}
 use Rattle.units.specs.declared.Unit.{Unit}
 use Rattle.units.specs.Units.{unit_number}
 use Rattle.meaning.specs.Input.{Input}
@@ -9,9 +9,8 @@ use Rattle.walk.specs.declared.Closings.{Closings}
 use Rattle.meaning.specs.Outcome.{Outcome, outcome}
 use Rattle.walk.specs.Closings.{none_closed}
 use Rattle.scanfile.specs.declared.Head.{Head}
-use Rattle.scanfile.specs.declared.Scan.{Scan}
-use Rattle.scanfile.specs.declared.Scan.TheVariants.{Good, Bad}
-use Rattle.scanfile.specs.Scans.{scan_of}
+use Rattle.scanfile.specs.Faults.{fault_number}
+use Rattle.scanfile.specs.Scans.{Scan, scan_of}
 use Rattle.scanfile.specs.Contents.{points_of, face_numbers_of, margin_of}
 use Rattle.scanwriter.specs.Written.{scan_bytes}
 use Rattle.text.specs.Words.{ascii}
@@ -67,8 +66,8 @@ call_of head points faces margin =
 
 -- the reply to a file that is refused, and to one that is good
 unfoldable pub reply_by : Wanted → List ℕ → Scan → Told
-reply_by wanted bytes (Bad number place) = refused number place none_closed
-reply_by wanted bytes (Good head) =
+reply_by wanted bytes (Err bad) = refused (fault_number bad.fault) bad.place none_closed
+reply_by wanted bytes (Ok head) =
     outcome_told wanted head.unit
     (outcome
     (call_of head (points_of bytes head.points) (face_numbers_of bytes head.points head.faces) (margin_of bytes head.points head.faces head.margin)))

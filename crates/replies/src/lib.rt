@@ -2,8 +2,7 @@
 // A file has at most 128 points, 256 faces and 128 margin points, and no buffer is larger than 64 KiB.
 #![tactic(auto)]
 
-ghost use Rattle.std.specs.Prelude.{◌≡◌, ◌+◌, ◌*◌, ◌≤◌, length, take};
-ghost use Rattle.scanfile.specs.declared.Scan.TheVariants.{Good};
+ghost use Rattle.std.specs.Prelude.{◌≡◌, ◌+◌, ◌*◌, ◌≤◌, length, take, Ok};
 ghost use Rattle.scanfile.specs.Scans.{scan_of};
 ghost use Rattle.meaning.specs.Outcome.{outcome};
 ghost use Rattle.lists.specs.Puts.{Put};
@@ -12,13 +11,11 @@ ghost use Rattle.units.specs.Units.{unit_number};
 ghost use Rattle.scanwriter.specs.Written.{scan_bytes};
 ghost use Rattle.replies.specs.declared.Wanted.TheVariants.{Listing, File};
 ghost use Rattle.replies.specs.Replies.{mesh, refused, closed_line, mesh_bytes, answer_told, call_of, outcome_told, reply_by, reply_of, complaint};
-ghost use Rattle.replies.specs.Clauses.{size_in, Replied, RepliedWhy, Small, Shown};
+ghost use Rattle.replies.specs.Clauses.{Replied, RepliedWhy, Small, Shown};
 
-use listing::Printed;
 use meaning::{Answer, Options};
-use scanfile::{Head, Scan};
-use scanwriter::Writing;
-use units::{Unit, unit_number};
+use scanfile::Head;
+use units::Unit;
 use walk::Closings;
 use walking::Engine;
 
@@ -39,80 +36,41 @@ pub enum Reply {
 
 // ---- memory, of which only the lengths matter
 
-// The bytes that are read: one over the longest good file, since what comes after can't change the answer.
-pub fn input_cells() -> [u8; 5157]
-    ensures { 5157 ≡ length result }
-{
-    [0; 5157]
-}
+// How many bytes are read: one over the longest good file, since what comes after can't change the answer.
+pub const INPUT_ROOM: usize = 5157;
 
-// The bytes that are written: the longest listing takes fewer.
-pub fn text_cells() -> [u8; 12288]
-    ensures { 12288 ≡ length result }
-{
-    [0; 12288]
-}
+// How many bytes are written at most: the longest listing takes fewer.
+pub const TEXT_ROOM: usize = 12288;
 
-// 128 points, three f32 each.
-fn point_cells() -> [f32; 384]
-    ensures { 384 ≡ length result }
-{
-    [0.0; 384]
-}
+// 128 points, three f32 each; 256 faces, three u32 each; and 128 margin points.
+const POINT_CELLS: usize = 384;
 
-// 256 faces, three u32 each.
-fn face_cells() -> [u32; 768]
-    ensures { 768 ≡ length result }
-{
-    [0; 768]
-}
+const FACE_CELLS: usize = 768;
 
-// 128 margin points, one u32 each.
-fn margin_cells() -> [u32; 128]
-    ensures { 128 ≡ length result }
-{
-    [0; 128]
-}
+const MARGIN_CELLS: usize = 128;
 
-// Work memory, 16V+32F u32.
-fn work_u32_cells() -> [u32; 10240]
-    ensures { 10240 ≡ length result }
-{
-    [0; 10240]
-}
+// Work memory: 16V+32F u32, 4V+12F f32 and 16V+6F f64.
+const WORK_U32_CELLS: usize = 10240;
 
-// Work memory, 4V+12F f32.
-fn work_f32_cells() -> [f32; 3584]
-    ensures { 3584 ≡ length result }
-{
-    [0.0; 3584]
-}
+const WORK_F32_CELLS: usize = 3584;
 
-// Work memory, 16V+6F f64.
-fn work_f64_cells() -> [f64; 3584]
-    ensures { 3584 ≡ length result }
+const WORK_F64_CELLS: usize = 3584;
+
+// As many zeros.
+fn zeros<T: Copy + Default, const N: usize>() -> [T; N]
+    ensures { N ≡ length result }
 {
-    [0.0; 3584]
+    [T::default(); N]
 }
 
 // ---- the reply
-
-// How many bytes a listing took.
-fn size_in(printed: Printed) -> usize
-    ensures { result ≡ size_in printed }
-{
-    match printed {
-        Printed::Bytes(n) => n,
-        Printed::NoRoom => 0,
-    }
-}
 
 // Writes the line of a refusal.
 fn write_refusal(out: &mut [u8], wanted: Wanted, number: u32, place: u32, closed: Closings) -> Reply
     requires { 12288 ≤ length out.old }
     ensures { Replied wanted (refused number place closed) out.old out.new result }
 {
-    let size = size_in(listing::list_refusal(out, number, place));
+    let size = listing::list_refusal(out, number, place).unwrap_or(0);
     Reply::Refusal(size, number, place, closed)
 }
 
@@ -129,8 +87,8 @@ fn write_listing(
     requires fact_2 { Small points.now faces.now }
     ensures { Replied Listing (mesh (mesh_text (unit_number unit) folds points.now faces.now) closed) out.old out.new result }
 {
-    let number = unit_number(unit);
-    let size = size_in(listing::list_mesh(out, number, folds, points, faces));
+    let number = u32::from(unit);
+    let size = listing::list_mesh(out, number, folds, points, faces).unwrap_or(0);
     Reply::Mesh(size, closed)
 }
 
@@ -140,10 +98,10 @@ fn write_file(out: &mut [u8], unit: Unit, closed: Closings, points: &[f32], face
     requires fact_2 { Small points.now faces.now }
     ensures { Replied File (mesh (scan_bytes (unit_number unit) points.now faces.now) closed) out.old out.new result }
 {
-    let number = unit_number(unit);
+    let number = u32::from(unit);
     match scanwriter::write_scan(number, points, faces, out) {
-        Writing::Bytes(n) => Reply::Mesh(n, closed),
-        Writing::Refused(number, place) => Reply::Refusal(0, number, place, closed),
+        Ok(size) => Reply::Mesh(size, closed),
+        Err(fault) => Reply::Refusal(0, fault.number(), fault.place(), closed),
     }
 }
 
@@ -209,16 +167,16 @@ fn write_thinned(
     requires { 12288 ≤ length out.old }
     ensures { Replied wanted (outcome_told wanted head.unit (outcome (call_of head points.now faces.now margin.now))) out.old out.new result }
 {
-    let mut out_points = point_cells();
-    let mut out_faces = face_cells();
-    let mut work_u32 = work_u32_cells();
-    let mut work_f32 = work_f32_cells();
-    let mut work_f64 = work_f64_cells();
+    let mut out_points: [f32; POINT_CELLS] = zeros();
+    let mut out_faces: [u32; FACE_CELLS] = zeros();
+    let mut work_u32: [u32; WORK_U32_CELLS] = zeros();
+    let mut work_f32: [f32; WORK_F32_CELLS] = zeros();
+    let mut work_f64: [f64; WORK_F64_CELLS] = zeros();
     let mut folds = [0u32; 1];
     let unit = head.unit;
     let limit = head.limit;
     let options = Options {
-        unit: unit_number(unit),
+        unit: u32::from(unit),
         ratio: head.ratio,
         preserve: head.preserve,
         limit: limit,
@@ -242,12 +200,12 @@ fn write_thinned(
 // Reads a good file's mesh, thins it and writes the reply of the outcome.
 fn write_good(out: &mut [u8], wanted: Wanted, bytes: &[u8], head: Head) -> Reply
     requires fact_1 { 12288 ≤ length out.old }
-    requires fact_2 { scan_of bytes.now ≡ Good head }
-    ensures { Replied wanted (reply_by wanted bytes.now (Good head)) out.old out.new result }
+    requires fact_2 { scan_of bytes.now ≡ Ok head }
+    ensures { Replied wanted (reply_by wanted bytes.now (Ok head)) out.old out.new result }
 {
-    let mut points = point_cells();
-    let mut faces = face_cells();
-    let mut margin = margin_cells();
+    let mut points: [f32; POINT_CELLS] = zeros();
+    let mut faces: [u32; FACE_CELLS] = zeros();
+    let mut margin: [u32; MARGIN_CELLS] = zeros();
     let v = head.points;
     let f = head.faces;
     let m = head.margin;
@@ -272,8 +230,14 @@ pub fn write_reply(out: &mut [u8], wanted: Wanted, bytes: &[u8]) -> Reply
     ensures { Replied wanted (reply_of wanted bytes.now) out.old out.new result }
 {
     match scanfile::read_scan(bytes) {
-        Scan::Bad(number, place) => write_refusal(out, wanted, number, place, walk::none_closed()),
-        Scan::Good(head) => write_good(out, wanted, bytes, head),
+        Ok(head) => write_good(out, wanted, bytes, head),
+        Err(bad) => write_refusal(
+            out,
+            wanted,
+            bad.fault.number(),
+            bad.place,
+            Closings::default(),
+        ),
     }
 }
 

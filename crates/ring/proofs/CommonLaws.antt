@@ -8,7 +8,8 @@ use mathlib.Core.Logic.{◌≢◌, inl}
 use mathlib.Core.List.{List}
 use mathlib.Core.Bool.{Bool, true, false, not, ◌&&◌, ◌||◌, cond, and-true, and-false}
 use lib.Dec.{ltb, eqb}
-use borrow.Author.Tests.{eq-eqb, ne_eqb, eqb-true, lt-ltb}
+use borrow.Author.Tests.{eqb-true, lt-ltb}
+use Rattle.std.specs.Int.{from_bool}
 use Rattle.walk.specs.declared.Face.{Face}
 use Rattle.lists.specs.Lists.{some, below}
 use Rattle.walk.specs.Faces.{holds, shared, neighbour, common, face_at}
@@ -29,7 +30,16 @@ use Rattle.ring.proofs.MarkLaws.{remarked-none, remarked-then, remarked-as}
 use Rattle.ring.proofs.TurnLaws.{Next, some_next}
 use Rattle.ring.proofs.AroundLaws.{marks-shared, cleared-back}
 
+-- a flag as a number
+pub flag_number : (b : Bool) → from_bool b ≡ cond b 1 0
+flag_number true = refl
+flag_number false = refl
+
 -- ---- one count after another
+
+neither : (a b : Bool) → not (a || b) ≡ (not a && not b)
+neither true b = refl
+neither false b = refl
 
 either-asked : (a b o : Bool) (m : ℕ) → cond (b && o) 0 (cond (a && o) 0 m) ≡ cond ((a || b) && o) 0 m
 either-asked true true true m = refl
@@ -74,21 +84,18 @@ module _ {v f keep remove : ℕ} where
   counted_same : (w : List ℕ) (x : ℕ) → other keep remove x ≡ false → Counted v f keep remove (λ u. eqb u x) w w 0
   counted_same w x same = counted_skip w x (λ u l e. rw (eqb-true u x e, same))
 
-  pub counted-keep : (w : List ℕ) (x : ℕ) → keep ≡ x → Counted v f keep remove (λ u. eqb u x) w w 0
-  counted-keep w x e = counted_same w x (rw (eq-eqb keep x e))
-
-  pub counted-remove : (w : List ℕ) (x : ℕ) → remove ≡ x → Counted v f keep remove (λ u. eqb u x) w w 0
-  counted-remove w x e = counted_same w x (rw (eq-eqb remove x e) (and-false (not (eqb keep x))))
+  pub counted-either : (w : List ℕ) (x : ℕ) → (eqb keep x || eqb remove x) ≡ true → Counted v f keep remove (λ u. eqb u x) w w 0
+  counted-either w x e = counted_same w x (sym (neither (eqb keep x) (eqb remove x)) ∙ ap not e)
 
   pub counted-unmarked : (w : List ℕ) (x : ℕ) → mark v f w x ≡ 0 → Counted v f keep remove (λ u. eqb u x) w w 0
   counted-unmarked w x none =
       counted_skip w x (λ u l e. rw (eqb-true u x e, none) (by-test (other keep remove x) (λ o. rw o) (λ o. rw o)))
 
   -- it is counted
-  pub counted-one : {w w' : List ℕ} (x : ℕ) → x < v → keep ≢ x → remove ≢ x → mark v f w x ≢ 0 →
+  pub counted-one : {w w' : List ℕ} (x : ℕ) → x < v → (eqb keep x || eqb remove x) ≡ false → mark v f w x ≢ 0 →
       Remarked v f (λ u m. cond (eqb u x) 0 m) w w' → Counted v f keep remove (λ u. eqb u x) w w' 1
-  counted-one {w} {w'} x inside not-keep not-remove has r =
-      let fresh : other keep remove x ≡ true = rw (ne_eqb keep x not-keep, ne_eqb remove x not-remove) in
+  counted-one {w} {w'} x inside apart has r =
+      let fresh : other keep remove x ≡ true = sym (neither (eqb keep x) (eqb remove x)) ∙ ap not apart in
       let now-marked : ℕ → ℕ = λ u. cond (other keep remove u && ltb 0 (mark v f w' u)) 1 0 in
       let here : ℕ → ℕ = λ u. cond (eqb u x) 1 0 in
       record {

@@ -22,6 +22,7 @@ use Rattle.mesh.specs.Clauses.Around.{Collected}
 use Rattle.lists.proofs.BelowLaws.{sum-same-below, sum-none, count-below-most, every-each}
 use Rattle.memory.proofs.FrameLaws.{lives-but, face-but}
 use Rattle.mesh.proofs.AroundLaws.{live-faces-but}
+use Rattle.ring.specs.declared.Neighbours.{Neighbours}
 use Rattle.ring.specs.Clauses.Listing.{is_around, AroundListed}
 use Rattle.ring.specs.Clauses.Wanting.{Near, found, wanted, Marks}
 use Rattle.ring.specs.Clauses.Taking.{marked, Framed, Taken, MarksReady}
@@ -32,8 +33,8 @@ use Rattle.ring.proofs.NearLaws.{some-around, near-gathered, wanted-around}
 use Rattle.memory.specs.Layout.{around_from, marks_from, near_from, stamps_from}
 
 -- what a face around x asks of u
-abbrev asked : Bool → ℕ → ℕ → Face → Bool
-asked rising x u face = holds u face && wanted rising x u face
+abbrev asked : Neighbours → ℕ → ℕ → Face → Bool
+asked which x u face = holds u face && wanted which x u face
 
 -- ---- found, in two memories and by two tests
 
@@ -75,34 +76,34 @@ module _ {v f : ℕ} {w₀ w₁ : List ℕ} {x count : ℕ} (tidy : Tidy v f w�
   gathered-unmarked : Unmarked v f w₁
   gathered-unmarked u l = collected.but.under (marks_from v f + u) (omega arith) ∙ tidy.unmarked u l
 
-  module _ (rising : Bool) {w₂ : List ℕ} (was-marked : Marks v f (λ u. found v f w₁ count (asked rising x u)) w₁ w₂) where
+  module _ (which : Neighbours) {w₂ : List ℕ} (was-marked : Marks v f (λ u. found v f w₁ count (asked which x u)) w₁ w₂) where
     -- the points are marked: those that the faces ask for
     pub marked-near : Near v f w₂ count
     marked-near = framed-list (framed-marks was-marked.but) collected.gathered.few gathered-near
 
-    marked-asked : (u : ℕ) → u < v → mark v f w₂ u ≡ cond (found v f w₁ count (asked rising x u)) 1 0
-    marked-asked u l = was-marked.marks u l ∙ ap (λ (m : ℕ). cond (found v f w₁ count (asked rising x u)) 1 m) (gathered-unmarked u l)
+    marked-asked : (u : ℕ) → u < v → mark v f w₂ u ≡ cond (found v f w₁ count (asked which x u)) 1 0
+    marked-asked u l = was-marked.marks u l ∙ ap (λ (m : ℕ). cond (found v f w₁ count (asked which x u)) 1 m) (gathered-unmarked u l)
 
     -- a face asks for no point that it doesn't hold
-    none-asked : (u : ℕ) → found v f w₁ count (holds u) ≡ false → found v f w₁ count (asked rising x u) ≡ false
+    none-asked : (u : ℕ) → found v f w₁ count (holds u) ≡ false → found v f w₁ count (asked which x u) ≡ false
     none-asked u none =
-        false_of (found v f w₁ count (asked rising x u))
-        (λ t. clash (some-implies _ _ (λ k e. and_elim_left (holds u (face_at w₁ k)) (wanted rising x u (face_at w₁ k)) e) (stretch w₁ (near_from v f) count) t) none)
+        false_of (found v f w₁ count (asked which x u))
+        (λ t. clash (some-implies _ _ (λ k e. and_elim_left (holds u (face_at w₁ k)) (wanted which x u (face_at w₁ k)) e) (stretch w₁ (near_from v f) count) t) none)
 
     -- these are the points around x
-    marked-around : (g : ℕ → ℕ) → sum g (marked v f w₂) ≡ sum g (those (is_around rising (live_faces f w₀) x) (below v))
+    marked-around : (g : ℕ → ℕ) → sum g (marked v f w₂) ≡ sum g (those (is_around which (live_faces f w₀) x) (below v))
     marked-around g =
         let faces = live_faces f w₁ in
-        let same : (u : ℕ) → u < v → counted v f w₂ g u ≡ cond (is_around rising faces x u) (g u) 0 =
+        let same : (u : ℕ) → u < v → counted v f w₂ g u ≡ cond (is_around which faces x u) (g u) 0 =
         λ u l. ap (λ (b : Bool). cond b (g u) 0)
         (ap (λ (k : ℕ). not (eqb k 0)) (marked-asked u l)
-        ∙ marked-flag (found v f w₁ count (asked rising x u))
-        ∙ some-around collected.gathered (asked rising x u)
-        ∙ wanted-around rising faces x u) in
+        ∙ marked-flag (found v f w₁ count (asked which x u))
+        ∙ some-around collected.gathered (asked which x u)
+        ∙ wanted-around which faces x u) in
         marked-sum v f w₂ g
-        ∙ sum-same-below (counted v f w₂ g) (λ u. cond (is_around rising faces x u) (g u) 0) v same
-        ∙ sym (sum-those g (is_around rising faces x) (below v))
-        ∙ ap (λ (fs : List Face). sum g (those (is_around rising fs x) (below v))) (live-faces-but f collected.but (omega arith))
+        ∙ sum-same-below (counted v f w₂ g) (λ u. cond (is_around which faces x u) (g u) 0) v same
+        ∙ sym (sum-those g (is_around which faces x) (below v))
+        ∙ ap (λ (fs : List Face). sum g (those (is_around which fs x) (below v))) (live-faces-but f collected.but (omega arith))
 
     -- there is a place for each of them
     pub marked-ready : MarksReady v f w₂ 0
@@ -146,7 +147,7 @@ module _ {v f : ℕ} {w₀ w₁ : List ℕ} {x count : ℕ} (tidy : Tidy v f w�
           rw here at (none_left u (omega arith) ∙ sym (tidy.unmarked u (omega arith))))
           (λ t. frame.between i (ltb-false _ _ t) (omega arith) ∙ collected.but.under i l))
 
-      pub listed-all : AroundListed v f w₀ rising x w₃ n
+      pub listed-all : AroundListed v f w₀ which x w₃ n
       listed-all =
           let frame = framed_then (framed-marks was-marked.but) done.frame in
           record {
@@ -160,17 +161,17 @@ module _ {v f : ℕ} {w₀ w₁ : List ℕ} {x count : ℕ} (tidy : Tidy v f w�
 
 -- ---- what the sums say of the list
 
-module _ {v f : ℕ} {w w' : List ℕ} {rising : Bool} {x n : ℕ} (done : AroundListed v f w rising x w' n) where
+module _ {v f : ℕ} {w w' : List ℕ} {which : Neighbours} {x n : ℕ} (done : AroundListed v f w which x w' n) where
   -- it is no longer than there are points
   pub listed-few : n ≤ v
   listed-few =
-      let test = is_around rising (live_faces f w) x in
+      let test = is_around which (live_faces f w) x in
       omega (arith, listed-count v f w' n, done.sums (λ u. 1), sum-those (λ u. 1) test (below v), count-below-most test v)
 
   -- and each of it is one of them
   pub listed-within : (i : ℕ) → i < n → get_or w' (around_from v f + i) 0 < v
   listed-within i l =
-      let test = is_around rising (live_faces f w) x in
+      let test = is_around which (live_faces f w) x in
       let none : sum (λ u. cond (ltb u v) 0 1) (around_in v f w' n) ≡ 0 =
       done.sums (λ u. cond (ltb u v) 0 1)
       ∙ sum-those (λ u. cond (ltb u v) 0 1) test (below v)

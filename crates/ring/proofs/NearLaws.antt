@@ -20,6 +20,8 @@ use Rattle.mesh.specs.Clauses.Around.{Gathered}
 use Rattle.lists.proofs.CondLaws.{cond-and}
 use Rattle.lists.proofs.BelowLaws.{every-each}
 use Rattle.mesh.proofs.AroundLaws.{gathered-sums}
+use Rattle.ring.specs.declared.Neighbours.{Neighbours}
+use Rattle.ring.specs.declared.Neighbours.TheVariants.{Rising, Every}
 use Rattle.ring.specs.Clauses.Listing.{is_around}
 use Rattle.ring.specs.Clauses.Wanting.{Near, wanted}
 use Rattle.memory.specs.Layout.{near_from}
@@ -62,21 +64,21 @@ and-implied a b true h = sym (and_assoc a b true) ∙ and-true (a && b) ∙ h re
 and-implied a b false h = sym (and_assoc a b false) ∙ and-false (a && b)
 
 -- after a fold: the neighbours of x
-wanted-neighbour : (faces : List Face) (x u : ℕ) → some (λ face. holds x face && (holds u face && wanted false x u face)) faces ≡ neighbour faces x u
+wanted-neighbour : (faces : List Face) (x u : ℕ) → some (λ face. holds x face && (holds u face && wanted Every x u face)) faces ≡ neighbour faces x u
 wanted-neighbour faces x u =
     some_same _ _ (λ face. sym (and_assoc (holds x face) (holds u face) (not (eqb x u))) ∙ and_comm (both x u face) (not (eqb x u))) faces
     ∙ some_with (not (eqb x u)) (both x u) faces
     ∙ ap (λ (t : Bool). not (eqb x u) && t) (some-count (both x u) faces)
 
 -- at the start: the ends of the edges that rise from x
-wanted-rises : (faces : List Face) (x u : ℕ) → some (λ face. holds x face && (holds u face && wanted true x u face)) faces ≡ rises faces (pair_of x u)
+wanted-rises : (faces : List Face) (x u : ℕ) → some (λ face. holds x face && (holds u face && wanted Rising x u face)) faces ≡ rises faces (pair_of x u)
 wanted-rises faces x u =
     some_same _ _
     (λ face. and-implied (holds x face) (holds u face) (ltb x u && runs x u face) (λ t. runs-both x u face (and_elim_right (ltb x u) (runs x u face) t))) faces
     ∙ some_with (ltb x u) (runs x u) faces
 
 -- either way: the points around x
-pub wanted-around : (rising : Bool) (faces : List Face) (x u : ℕ) →
-    some (λ face. holds x face && (holds u face && wanted rising x u face)) faces ≡ is_around rising faces x u
-wanted-around true faces x u = wanted-rises faces x u
-wanted-around false faces x u = wanted-neighbour faces x u
+pub wanted-around : (which : Neighbours) (faces : List Face) (x u : ℕ) →
+    some (λ face. holds x face && (holds u face && wanted which x u face)) faces ≡ is_around which faces x u
+wanted-around Rising faces x u = wanted-rises faces x u
+wanted-around Every faces x u = wanted-neighbour faces x u

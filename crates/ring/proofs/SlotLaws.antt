@@ -1,6 +1,6 @@
 -- A list of slots: one slot more, a slot at a place, and what a change of other cells leaves as it was.
 -- Assumes nothing.
-use Prim.Native.Nat.{ℕ, ◌+◌, ◌*◌, ◌≤◌, ◌<◌}
+use Prim.Native.Nat.{ℕ, ◌+◌, ◌-◌, ◌*◌, ◌≤◌, ◌<◌}
 use native.Mathlib.Nat.{add-zero}
 use native.Mathlib.Numerals.{add-one}
 use native.Mathlib.Omega.{arith}
@@ -10,7 +10,8 @@ use mathlib.Core.List.{List, [], ◌∷◌, ◌++◌, map-append}
 use mathlib.Core.Bool.{Bool, true, ◌&&◌, ◌||◌, or-false}
 use mathlib.Mathlib.Data.Bool.Basic.{and_elim_left, and_elim_right}
 use lib.Dec.{ltb}
-use lib.ListN.{length, get_or}
+use lib.ListN.{length, get_or, take, drop}
+use Rattle.std.proofs.lemmas.List.{get_or-take, get_or-drop, length-take-le, length-drop}
 use borrow.Author.Tests.{ltb-true}
 use Rattle.lists.specs.Lists.{sum, some, every, below, stretch}
 use Rattle.walk.specs.Faces.{holds, proper, face_at}
@@ -64,6 +65,19 @@ module _ (test : ℕ → Bool) (w : List ℕ) (base n : ℕ) where
 pub slot_small : (f : ℕ) (w : List ℕ) (base n : ℕ) → every (λ k. ltb k f) (stretch w base n) ≡ true →
     (i : ℕ) → i < n → get_or w (base + i) 0 < f
 slot_small f w base n all i l = ltb-true _ f (every-slot (λ k. ltb k f) w base n all i l)
+
+-- ---- the list as a part of the memory
+
+-- the n slots from base on, as a loop over that part of the memory goes through them
+abbrev pub part_of : List ℕ → ℕ → ℕ → List ℕ
+part_of w base n = take (base + n - base) (drop base w)
+
+module _ (w : List ℕ) (base n : ℕ) (within : base + n ≤ length w) where
+  pub length-part : length (part_of w base n) ≡ n
+  length-part = length-take-le (base + n - base) (drop base w) (omega (arith, length-drop base w)) ∙ omega arith
+
+  pub read-part : (i : ℕ) → i < n → get_or (part_of w base n) i 0 ≡ get_or w (base + i) 0
+  read-part i l = get_or-take (base + n - base) (drop base w) i 0 (omega arith) ∙ get_or-drop base w i 0
 
 -- ---- the faces of a list
 

@@ -10,6 +10,7 @@ ghost use Rattle.ring.specs.Clauses.Listing.{AroundListed};
 ghost use Rattle.ring.specs.Clauses.Wanting.{Near, found, wanted, Marks};
 ghost use Rattle.ring.specs.Clauses.Taking.{Taken, MarksReady};
 
+use crate::Neighbours;
 use crate::marking::clear_mark;
 use walk::Face;
 
@@ -23,36 +24,35 @@ fn runs(x: u32, y: u32, face: Face) -> bool
 }
 
 // Whether a face around x asks for its point y: at the start along a rising edge, after a fold for any other point.
-fn is_wanted(rising: bool, x: u32, y: u32, face: Face) -> bool
-    ensures { result ≡ wanted rising x y face }
+fn is_wanted(which: Neighbours, x: u32, y: u32, face: Face) -> bool
+    ensures { result ≡ wanted which x y face }
 {
-    if rising {
-        (x < y) & runs(x, y, face)
-    } else {
-        x != y
+    match which {
+        Neighbours::Rising => (x < y) & runs(x, y, face),
+        Neighbours::Every => x != y,
     }
 }
 
 // Marks a point of a face around x that the face asks for.
-fn mark_corner(w: &mut [u32], v: usize, f: usize, rising: bool, x: u32, y: u32, face: Face)
+fn mark_corner(w: &mut [u32], v: usize, f: usize, which: Neighbours, x: u32, y: u32, face: Face)
     requires fact_1 { Room v f w.old }
     requires fact_2 { y < v }
-    ensures { Marks v f (λ u. eqb u y && wanted rising x y face) w.old w.new }
+    ensures { Marks v f (λ u. eqb u y && wanted which x y face) w.old w.new }
 {
-    if is_wanted(rising, x, y, face) {
+    if is_wanted(which, x, y, face) {
         memory::set_mark(w, v, f, y as usize, 1);
     }
 }
 
 // Marks the points of a face around x that it asks for.
-fn mark_face(w: &mut [u32], v: usize, f: usize, rising: bool, x: u32, face: Face)
+fn mark_face(w: &mut [u32], v: usize, f: usize, which: Neighbours, x: u32, face: Face)
     requires fact_1 { Room v f w.old }
     requires fact_2 { proper v face ≡ true }
-    ensures { Marks v f (λ u. holds u face && wanted rising x u face) w.old w.new }
+    ensures { Marks v f (λ u. holds u face && wanted which x u face) w.old w.new }
 {
-    mark_corner(w, v, f, rising, x, face.a, face);
-    mark_corner(w, v, f, rising, x, face.b, face);
-    mark_corner(w, v, f, rising, x, face.c, face);
+    mark_corner(w, v, f, which, x, face.a, face);
+    mark_corner(w, v, f, which, x, face.b, face);
+    mark_corner(w, v, f, which, x, face.c, face);
 }
 
 // A face of those that were gathered.
@@ -67,17 +67,15 @@ fn face_near(w: &[u32], v: usize, f: usize, i: usize) -> Face
 }
 
 // Marks the points that the gathered faces ask for.
-fn mark_wanted(w: &mut [u32], v: usize, f: usize, count: usize, rising: bool, x: u32)
+fn mark_wanted(w: &mut [u32], v: usize, f: usize, count: usize, which: Neighbours, x: u32)
     requires fact_1 { Room v f w.old }
     requires fact_2 { count ≤ f }
     requires fact_3 { Near v f w.old count }
-    ensures { Marks v f (λ u. found v f w.old count (λ face. holds u face && wanted rising x u face)) w.old w.new }
+    ensures { Marks v f (λ u. found v f w.old count (λ face. holds u face && wanted which x u face)) w.old w.new }
 {
-    let mut i = 0;
-    while i < count {
+    for i in 0..count {
         let face = face_near(w, v, f, i);
-        mark_face(w, v, f, rising, x, face);
-        i += 1;
+        mark_face(w, v, f, which, x, face);
     }
 }
 
@@ -114,22 +112,20 @@ fn list_marked(w: &mut [u32], v: usize, f: usize, count: usize) -> usize
     ensures { Taken v f (λ u. found v f w.old count (λ face. holds u face)) w.old 0 w.new result }
 {
     let mut n = 0;
-    let mut i = 0;
-    while i < count {
+    for i in 0..count {
         let face = face_near(w, v, f, i);
         n = list_face(w, v, f, n, face);
-        i += 1;
     }
     n
 }
 
 // Lists the points around x, each once. Says how many.
-pub fn list_around(w: &mut [u32], v: usize, f: usize, rising: bool, x: u32) -> usize
+pub fn list_around(w: &mut [u32], v: usize, f: usize, which: Neighbours, x: u32) -> usize
     requires fact_1 { Tidy v f w.old }
     requires fact_2 { x < v }
-    ensures { AroundListed v f w.old rising x w.new result }
+    ensures { AroundListed v f w.old which x w.new result }
 {
     let count = mesh::collect(w, v, f, x as usize, memory::near_from(v, f));
-    mark_wanted(w, v, f, count, rising, x);
+    mark_wanted(w, v, f, count, which, x);
     list_marked(w, v, f, count)
 }

@@ -10,10 +10,10 @@ ghost use Rattle.placement.specs.declared.Kind.TheVariants.{Free, Border};
 ghost use Rattle.ring.specs.Clauses.Marking.{FacesListed, single, some_point};
 ghost use Rattle.memory.specs.Layout.{far_from, near_from};
 
-use crate::marking::{clear_faces, mark_faces, slot_at};
+use crate::marking::{clear_faces, mark_faces};
 use memory::{face_in, mark_at, set_kind};
 use mesh::collect;
-use placement::{Kind, kind_number};
+use placement::Kind;
 
 // Whether a point other than x has the mark 1.
 fn is_single(w: &[u32], v: usize, f: usize, x: usize, u: u32) -> bool
@@ -51,9 +51,8 @@ fn has_single(w: &[u32], v: usize, f: usize, x: usize, base: usize, n: usize) ->
     requires fact_2 { FacesListed v f w.now base n }
     ensures { result ≡ some (λ k. some_point (single v f w.now x) (face_at w.now k)) (stretch w.now base n) }
 {
-    for i in 0..n {
-        let k = slot_at(w, base, i);
-        if face_has_single(w, v, f, x, k) {
+    for &k in &w[base..base + n] {
+        if face_has_single(w, v, f, x, k as usize) {
             return true;
         }
     }
@@ -97,6 +96,6 @@ pub fn mark_borders(w: &mut [u32], v: usize, f: usize, preserve: bool)
 {
     for x in 0..v {
         let kind = border_kind(w, v, f, x, preserve);
-        set_kind(w, v, f, x, kind_number(kind));
+        set_kind(w, v, f, x, u32::from(kind));
     }
 }

@@ -1,5 +1,5 @@
 // What two points have in common: the faces that hold both, and the neighbours of both.
-ghost use Rattle.std.specs.Prelude.{◌≡◌, true, ◌+◌, ◌*◌, ◌≤◌, ◌<◌, ltb, eqb, length};
+ghost use Rattle.std.specs.Prelude.{◌≡◌, true, cond, ◌+◌, ◌*◌, ◌≤◌, ◌<◌, ltb, eqb, length};
 ghost use Rattle.lists.specs.Lists.{count, every, stretch};
 ghost use Rattle.walk.specs.Faces.{holds, proper, common, face_at};
 ghost use Rattle.memory.specs.Memory.{Room, live_faces};
@@ -10,7 +10,6 @@ ghost use Rattle.ring.specs.Clauses.Counting.{Counted};
 use crate::Ring;
 use crate::marking::{clear_faces, clear_mark, mark_faces, slot_at};
 use memory::{face_in, mark_at};
-use walk::face_holds;
 
 // How many of the listed faces hold y.
 pub fn shared_count(w: &[u32], f: usize, base: usize, n: usize, y: u32) -> usize
@@ -20,32 +19,28 @@ pub fn shared_count(w: &[u32], f: usize, base: usize, n: usize, y: u32) -> usize
     ensures { result ≡ count (λ k. holds y (face_at w.now k)) (stretch w.now base n) }
 {
     let mut r = 0;
-    for i in 0..n {
-        let k = slot_at(w, base, i);
-        if face_holds(y, face_in(w, f, k)) {
+    for &k in &w[base..base + n] {
+        if face_in(w, f, k as usize).holds(y) {
             r += 1;
         }
     }
     r
 }
 
-// Counts a marked point that is neither of two, and takes its mark, so that it is counted once.
-fn count_point(w: &mut [u32], v: usize, f: usize, keep: u32, remove: u32, x: u32) -> usize
-    requires fact_1 { Room v f w.old }
-    requires fact_2 { x < v }
-    ensures { Counted v f keep remove (λ u. eqb u x) w.old w.new result }
+// Whether a point counts: it is marked and is neither of two. Its mark is taken, so that it counts once.
+fn counts(w: &mut [u32], v: usize, f: usize, keep: u32, remove: u32, x: u32) -> bool
+    requires room { Room v f w.old }
+    requires within { x < v }
+    ensures { Counted v f keep remove (λ u. eqb u x) w.old w.new (cond result 1 0) }
 {
-    if keep == x {
-        return 0;
-    }
-    if remove == x {
-        return 0;
+    if (keep == x) | (remove == x) {
+        return false;
     }
     if mark_at(w, v, f, x as usize) == 0 {
-        return 0;
+        return false;
     }
     clear_mark(w, v, f, x);
-    1
+    true
 }
 
 // Counts the marked points of a face that are neither of two, and takes their marks.
@@ -56,10 +51,10 @@ fn count_face(w: &mut [u32], v: usize, f: usize, keep: u32, remove: u32, k: usiz
     ensures { Counted v f keep remove (λ u. holds u (face_at w.old k)) w.old w.new result }
 {
     let p = face_in(w, f, k);
-    let a = count_point(w, v, f, keep, remove, p.a);
-    let b = count_point(w, v, f, keep, remove, p.b);
-    let c = count_point(w, v, f, keep, remove, p.c);
-    a + b + c
+    let a = counts(w, v, f, keep, remove, p.a);
+    let b = counts(w, v, f, keep, remove, p.b);
+    let c = counts(w, v, f, keep, remove, p.c);
+    usize::from(a) + usize::from(b) + usize::from(c)
 }
 
 // Counts the marked points of the listed faces that are neither of two, and takes their marks.

@@ -10,7 +10,7 @@ ghost use Rattle.ring.specs.Clauses.Kinds.{NamesPoints, Margined};
 
 use crate::borders::mark_borders;
 use memory::{kind_at, set_kind};
-use placement::{Kind, is_fixed, kind_number, kind_of};
+use placement::Kind;
 
 // Writes the kind of each margin point, whatever it was before: margin wins.
 fn mark_margin(w: &mut [u32], v: usize, f: usize, margin: &[u32])
@@ -18,9 +18,8 @@ fn mark_margin(w: &mut [u32], v: usize, f: usize, margin: &[u32])
     requires fact_2 { NamesPoints v margin.now }
     ensures { Margined v f margin.now w.old w.new }
 {
-    for i in 0..margin.len() {
-        let x = margin[i] as usize;
-        set_kind(w, v, f, x, kind_number(Kind::Margin));
+    for &x in margin {
+        set_kind(w, v, f, x as usize, u32::from(Kind::Margin));
     }
 }
 
@@ -31,8 +30,7 @@ fn count_fixed(w: &[u32], v: usize, f: usize) -> usize
 {
     let mut n = 0;
     for x in 0..v {
-        let number = kind_at(w, v, f, x);
-        if is_fixed(kind_of(number)) {
+        if Kind::from(kind_at(w, v, f, x)).is_fixed() {
             n += 1;
         }
     }

@@ -14,6 +14,13 @@ pub use gathering::gather;
 pub use kinds::mark_kinds;
 pub use marking::{clear_faces, mark_faces, slot_at};
 
+// Which points around a point are asked for: those to which a face edge rises from it, or every neighbour.
+#[derive(Clone, Copy)]
+pub enum Neighbours {
+    Rising,
+    Every,
+}
+
 // The faces around the two points of a pair, as they are listed in the memory: where each list begins and how many it has, keep's first.
 #[derive(Clone, Copy)]
 pub struct Ring {

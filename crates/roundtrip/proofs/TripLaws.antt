@@ -12,10 +12,13 @@ use borrow.Author.Tests.{le-leb, lt-leb}
 use Rattle.lists.specs.Lists.{overlaid}
 use Rattle.units.specs.Units.{unit_number, unit_of}
 use Rattle.scanfile.specs.declared.Head.{Head}
-use Rattle.scanfile.specs.declared.Scan.TheVariants.{Good, Bad}
+use Rattle.std.specs.Prelude.{Ok, Err}
+use Rattle.scanfile.specs.declared.faults.BadFile.{BadFile}
+use Rattle.scanfile.proofs.FaultLaws.{not_passed}
 use Rattle.scanfile.specs.Scans.{scan_of}
 use Rattle.scanfile.specs.Contents.{points_of, face_numbers_of}
-use Rattle.scanwriter.specs.declared.Writing.TheVariants.{Bytes, Refused}
+use Rattle.std.specs.Prelude.{Ok, Err}
+use Rattle.scanwriter.specs.declared.WriteFault.{WriteFault}
 use Rattle.scanwriter.specs.Written.{ScanWritten}
 use Rattle.scanwriter.specs.Back.{written_head, ReadBack}
 use Rattle.scanwriter.proofs.BackLaws.{written_back}
@@ -24,10 +27,10 @@ use Rattle.roundtrip.specs.Trips.{RoomToRead, MeshRead, what_comes_back, BackAga
 -- ---- reading
 
 -- a file has one head
-same_head : {g h : Head} (bytes : List ℕ) → scan_of bytes ≡ Good g → scan_of bytes ≡ Good h → g ≡ h
+same_head : {g h : Head} (bytes : List ℕ) → scan_of bytes ≡ Ok g → scan_of bytes ≡ Ok h → g ≡ h
 same_head bytes one other = cc
 
-pub good-read : (bytes : List ℕ) (g : Head) {points points' : List Float} {faces faces' : List ℕ} → scan_of bytes ≡ Good g →
+pub good-read : (bytes : List ℕ) (g : Head) {points points' : List Float} {faces faces' : List ℕ} → scan_of bytes ≡ Ok g →
     points' ≡ overlaid (points_of bytes g.points) points → faces' ≡ overlaid (face_numbers_of bytes g.points g.faces) faces →
     MeshRead bytes points points' faces faces' (unit_number g.unit)
 good-read bytes g {points} {points'} {faces} {faces'} good points-in faces-in =
@@ -38,10 +41,10 @@ good-read bytes g {points} {points'} {faces} {faces'} good points-in faces-in =
     }
 
 -- a file that is refused has none
-not_good : {number place : ℕ} {h : Head} (bytes : List ℕ) → scan_of bytes ≡ Bad number place → scan_of bytes ≡ Good h → ⊥
-not_good bytes bad good = let z : ◌≡◌ {A = ℕ} 0 1 = cc in omega arith
+not_good : {b : BadFile} {h : Head} (bytes : List ℕ) → scan_of bytes ≡ Err b → scan_of bytes ≡ Ok h → ⊥
+not_good bytes bad good = not_passed (sym bad ∙ good)
 
-pub none_read : (bytes : List ℕ) (points : List Float) (faces : List ℕ) {number place : ℕ} → scan_of bytes ≡ Bad number place → MeshRead bytes points points faces faces 0
+pub none_read : (bytes : List ℕ) (points : List Float) (faces : List ℕ) {b : BadFile} → scan_of bytes ≡ Err b → MeshRead bytes points points faces faces 0
 none_read bytes points faces bad =
     record {
       unit_read = λ h e. absurd (not_good bytes bad e);
@@ -71,11 +74,11 @@ module _ (unit : ℕ) (points : List Float) (faces file : List ℕ) (out-points 
     few_faces short = stays comes (rw (le-leb _ _ points_room, lt-leb _ _ short) refl)
 
     module _ (faces_room : length faces ≤ length out-faces) where
-      pub refused-back : {number place : ℕ} {file' : List ℕ} → ScanWritten unit points faces file file' (Refused number place) →
+      pub refused-back : {fault : WriteFault} {file' : List ℕ} → ScanWritten unit points faces file file' (Err fault) →
           BackAgain comes unit points faces out-points out-points out-faces out-faces 0
       refused-back done = stays comes (rw (le-leb _ _ points_room, le-leb _ _ faces_room, ← done.answered) refl)
 
-      module _ {n : ℕ} {file' : List ℕ} (done : ScanWritten unit points faces file file' (Bytes n)) (floats : (i : ℕ) → T (fits binary32 (get_or points i nan))) where
+      module _ {n : ℕ} {file' : List ℕ} (done : ScanWritten unit points faces file file' (Ok n)) (floats : (i : ℕ) → T (fits binary32 (get_or points i nan))) where
         back : ReadBack unit points faces (take n file')
         back = written_back done floats
 

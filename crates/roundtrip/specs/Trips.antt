@@ -1,34 +1,32 @@
 -- What comes back of a mesh that is written as a file and read again.
-use Rattle.std.specs.Prelude.{ℕ, ◌*◌, ◌≤◌, ◌≡◌, List, Bool, true, false, ◌&&◌, cond, leb, length, Float}
+use Rattle.std.specs.Prelude.{ℕ, ◌*◌, ◌≤◌, ◌≡◌, List, Bool, true, false, ◌&&◌, cond, leb, length, Float, Result, Ok, Err}
 use Rattle.lists.specs.Lists.{overlaid}
 use Rattle.units.specs.Units.{unit_number}
 use Rattle.scanfile.specs.declared.Head.{Head}
-use Rattle.scanfile.specs.declared.Scan.TheVariants.{Good}
 use Rattle.scanfile.specs.Scans.{scan_of}
 use Rattle.scanfile.specs.Contents.{points_of, face_numbers_of}
-use Rattle.scanwriter.specs.declared.Writing.{Writing}
-use Rattle.scanwriter.specs.declared.Writing.TheVariants.{Bytes, Refused}
+use Rattle.scanwriter.specs.declared.WriteFault.{WriteFault}
 use Rattle.scanwriter.specs.Written.{writing_of}
 
 -- ---- reading
 
 -- the lists are long enough for a good file's points and faces
 pub record RoomToRead (bytes : List ℕ) (points : List Float) (faces : List ℕ) : Type 0 where
-  pub points_room : (h : Head) → scan_of bytes ≡ Good h → 3 * h.points ≤ length points
-  pub faces_room : (h : Head) → scan_of bytes ≡ Good h → 3 * h.faces ≤ length faces
+  pub points_room : (h : Head) → scan_of bytes ≡ Ok h → 3 * h.points ≤ length points
+  pub faces_room : (h : Head) → scan_of bytes ≡ Ok h → 3 * h.faces ≤ length faces
 
 -- what a good file holds, as the reader's definition has it
 pub record MeshRead (bytes : List ℕ) (points points' : List Float) (faces faces' : List ℕ) (r : ℕ) : Type 0 where
-  pub unit_read : (h : Head) → scan_of bytes ≡ Good h → r ≡ unit_number h.unit
-  pub points_read : (h : Head) → scan_of bytes ≡ Good h → points' ≡ overlaid (points_of bytes h.points) points
-  pub faces_read : (h : Head) → scan_of bytes ≡ Good h → faces' ≡ overlaid (face_numbers_of bytes h.points h.faces) faces
+  pub unit_read : (h : Head) → scan_of bytes ≡ Ok h → r ≡ unit_number h.unit
+  pub points_read : (h : Head) → scan_of bytes ≡ Ok h → points' ≡ overlaid (points_of bytes h.points) points
+  pub faces_read : (h : Head) → scan_of bytes ≡ Ok h → faces' ≡ overlaid (face_numbers_of bytes h.points h.faces) faces
 
 -- ---- writing and reading
 
 -- whether the writer takes what it is given
-abbrev pub is_written : Writing → Bool
-is_written (Bytes n) = true
-is_written (Refused number place) = false
+abbrev pub is_written : Result ℕ WriteFault → Bool
+is_written (Ok n) = true
+is_written (Err fault) = false
 
 -- whether it does, and the lists to read into are long enough
 abbrev pub what_comes_back : (unit : ℕ) (points : List Float) (faces file : List ℕ) (out-points : List Float) (out-faces : List ℕ) → Bool

@@ -3,9 +3,8 @@
 
 ghost use Rattle.roundtrip.specs.Trips.{RoomToRead, MeshRead, what_comes_back, BackAgain};
 
-use scanfile::{Scan, read_faces, read_points, read_scan};
-use scanwriter::{Writing, write_scan};
-use units::unit_number;
+use scanfile::{read_faces, read_points, read_scan};
+use scanwriter::write_scan;
 
 // Reads a file's points and faces to the beginning of two lists, and answers its unit's number; 0 for bytes that are no good file.
 fn read_mesh(bytes: &[u8], out_points: &mut [f32], out_faces: &mut [u32]) -> u32
@@ -13,15 +12,15 @@ fn read_mesh(bytes: &[u8], out_points: &mut [f32], out_faces: &mut [u32]) -> u32
     ensures { MeshRead bytes.now out_points.old out_points.new out_faces.old out_faces.new result }
 {
     match read_scan(bytes) {
-        Scan::Good(head) => {
+        Ok(head) => {
             let unit = head.unit;
             let v = head.points;
             let f = head.faces;
             read_points(bytes, v, out_points);
             read_faces(bytes, v, f, out_faces);
-            unit_number(unit)
+            u32::from(unit)
         }
-        Scan::Bad(_, _) => 0,
+        Err(_) => 0,
     }
 }
 
@@ -45,7 +44,7 @@ pub extern "C" fn write_and_read(
         return 0;
     }
     match write_scan(unit, points, faces, file) {
-        Writing::Bytes(n) => read_mesh(&file[..n], out_points, out_faces),
-        Writing::Refused(_, _) => 0,
+        Ok(size) => read_mesh(&file[..size], out_points, out_faces),
+        Err(_) => 0,
     }
 }

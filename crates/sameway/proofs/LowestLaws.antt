@@ -1,12 +1,12 @@
 -- The lowest corner with the edge of a lower one, point by point: what is true at each.
 -- Assumes nothing.
-use Prim.Native.Nat.{ℕ, ◌+◌, ◌*◌, ◌/◌, ◌≤◌, ◌<◌}
+use Prim.Native.Nat.{ℕ, ◌+◌, ◌*◌, ◌/◌, ◌≤◌, ◌<◌, min}
 use native.Mathlib.Omega.{arith}
 use mathlib.Core.Path.{◌≡◌, sym, ap, ◌∙◌}
-use mathlib.Core.Logic.{◌≢◌, ◌⊎◌, ⊎_elim}
+use mathlib.Core.Logic.{◌≢◌}
 use mathlib.Core.List.{List}
-use lib.Dec.{eqb}
-use borrow.Author.Tests.{eqb-true, eqb-false}
+use lib.Dec.{eqb, leb}
+use borrow.Author.Tests.{eqb-true, eqb-false, leb-true, leb-false}
 use Rattle.lists.specs.Frames.{But, Written}
 use Rattle.lists.proofs.TestLaws.{by-test}
 use Rattle.lists.proofs.FrameLaws.{but-refl, but-then, but-widen}
@@ -84,8 +84,8 @@ lowest_start {v} {f} {from} {w₀} {w} is filled =
 
 -- the edges from one more point are looked at, and the lesser is kept
 pub lowest-turn : {v f r lowest lowest' x : ℕ} {w₀ w w' : List ℕ} → Lowering v f w₀ w lowest x → Looked v f w x w' r →
-    lowest' ≤ lowest → lowest' ≤ r → (lowest' ≡ r) ⊎ (lowest' ≡ lowest) → Lowering v f w₀ w' lowest' (x + 1)
-lowest-turn {v} {f} {r} {lowest} {lowest'} {x} {w₀} {w} {w'} h looked below-lowest below-found one = record {
+    lowest' ≡ min lowest r → Lowering v f w₀ w' lowest' (x + 1)
+lowest-turn {v} {f} {r} {lowest} {lowest'} {x} {w₀} {w} {w'} h looked lesser = record {
   but = but-then h.but looked.but;
   seen-before = looked.seen-before;
   most = omega (arith, h.most);
@@ -95,10 +95,11 @@ lowest-turn {v} {f} {r} {lowest} {lowest'} {x} {w₀} {w} {w'} h looked below-lo
       new-same v f w₀ w h.but c (omega (arith, h.most)) (looked.new-before c (omega arith) (corner-same v f w₀ w h.but c (omega (arith, h.most)) ∙ eqb-true (corner w₀ c) x t)))
       (λ t. let apart : corner w₀ c ≢ x = eqb-false (corner w₀ c) x t in h.new-before c (omega arith) (omega arith));
   repeated = λ l.
-      ⊎_elim
-      (λ (found : lowest' ≡ r). rw found (repeated-same v f w₀ w h.but r (rw found at l) (looked.repeated (rw found at l))))
-      (λ (old : lowest' ≡ lowest). rw old (h.repeated (rw old at l)))
-      one;
+      by-test (leb lowest r)
+      (λ t. let old : lowest' ≡ lowest = omega (arith, lesser, leb-true lowest r t) in rw old (h.repeated (rw old at l)))
+      (λ t.
+      let found : lowest' ≡ r = omega (arith, lesser, leb-false lowest r t) in
+      rw found (repeated-same v f w₀ w h.but r (rw found at l) (looked.repeated (rw found at l))));
 }
 
 -- past the last point, of the memory before it was cleared

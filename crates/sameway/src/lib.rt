@@ -3,16 +3,17 @@
 // No entry calls it yet: an input with such faces is not refused.
 #![tactic(auto)]
 
-mod seen;
-
 ghost use Rattle.std.specs.Prelude.{◌≡◌, ◌+◌, ◌^◌, ◌≤◌, ◌<◌, length};
 ghost use Rattle.lists.specs.Frames.{But};
 ghost use Rattle.memory.specs.Layout.{folds_from};
 ghost use Rattle.sameway.specs.Seen.{seen_from};
 ghost use Rattle.sameway.specs.Clauses.{ahead, end_of, Ordered, SeenBefore, Looked, Lowest};
 
-use memory::{corner_at, first_at, next_at};
-use seen::{seen_at, seen_from, set_seen};
+// From which point an edge to each point was seen last stands in the cells for the points around a point: one more than its number.
+use memory::{
+    around_at as seen_at, around_from as seen_from, corner_at, first_at, next_at,
+    set_around as set_seen,
+};
 
 // The corner after a corner, around its face.
 fn next_corner(c: usize) -> usize
@@ -61,10 +62,7 @@ pub fn lowest_repeat(w: &mut [u32], v: usize, f: usize) -> usize
     lists::fill(w, seen_from(v, f), v, 0);
     let mut lowest = 3 * f;
     for x in 0..v {
-        let c = first_repeat(w, v, f, x);
-        if c < lowest {
-            lowest = c;
-        }
+        lowest = lowest.min(first_repeat(w, v, f, x));
     }
     lowest / 3
 }

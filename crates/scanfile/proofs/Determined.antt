@@ -5,8 +5,7 @@ use mathlib.Core.Path.{◌≡◌, sym, ◌∙◌}
 use mathlib.Core.List.{List}
 use lib.Ieee.{Float}
 use Rattle.lists.specs.Lists.{overlaid}
-use Rattle.scanfile.specs.declared.Scan.{Scan}
-use Rattle.scanfile.specs.Scans.{scan_of}
+use Rattle.scanfile.specs.Scans.{Scan, scan_of}
 use Rattle.scanfile.specs.Contents.{points_of, face_numbers_of, margin_of}
 use Rattle.scanfile.specs.Told.{number_of, cells_of}
 

@@ -14,7 +14,7 @@ use Rattle.records.specs.Records.{head_length, size_at, kind_at, records_bytes}
 use Rattle.records.proofs.WordLaws.{numbers-count, read-two, read-four, read-fours, two_then, four-then, fours-then, fours-length}
 use Rattle.records.proofs.RecordLaws.{record-length, read-record, record-then}
 use Rattle.scanfile.specs.declared.Head.{Head}
-use Rattle.scanfile.specs.declared.Scan.TheVariants.{Good}
+use Rattle.std.specs.Prelude.{Ok}
 use Rattle.scanfile.specs.Layout.{unit_at, flags_at, ratio_at, limit_at, second_at, points_at, third_after, faces_at, end_after, margin_at, third_at, fourth_at}
 use Rattle.scanfile.specs.Scans.{margin_count, scan_of}
 use Rattle.scanfile.specs.Contents.{points_of, face_numbers_of, margin_of}
@@ -44,7 +44,7 @@ module _ {bytes : List ℕ} {h : Head} (g : GoodFile bytes h) (small : (i : ℕ)
       (record-then bytes small (end_after h.points h.faces) (margin_record numbers) [] (omega arith) size e.fourth_kind
       (fours-then bytes small at end [] h.margin refl (omega arith) (drop_of_length-le bytes {i = end} (omega arith))))
 
-module _ (bytes : List ℕ) (h : Head) (good : scan_of bytes ≡ Good h) where
+module _ (bytes : List ℕ) (h : Head) (good : scan_of bytes ≡ Ok h) where
   pub good-writable : Writable (contents_of bytes h) h.points h.faces
   good-writable =
       let g = good-file bytes h good in
@@ -222,7 +222,7 @@ module _ (c : Contents) (v f : ℕ) (w : Writable c v f) where
         flags_known = rw g.flags w.flags_known;
       }
 
-  pub written-good : scan_of (file_of c) ≡ Good (head_for c v f)
+  pub written-good : scan_of (file_of c) ≡ Ok (head_for c v f)
   written-good = file-good (file_of c) (head_for c v f) (found-good (file_of c) (found (file_of c) refl))
 
   pub written-points : points_of (file_of c) v ≡ map (of_bits binary32) c.points

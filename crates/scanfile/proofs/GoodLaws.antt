@@ -14,27 +14,28 @@ use Rattle.units.specs.Units.{known_unit}
 use Rattle.units.proofs.UnitLaws.{number_known, number-of-unit}
 use Rattle.records.specs.Records.{head_length, size_at, kind_at, next_at}
 use Rattle.scanfile.specs.declared.Head.{Head}
-use Rattle.scanfile.specs.declared.Scan.TheVariants.{Good}
+use Rattle.std.specs.Prelude.{Ok}
+use Rattle.scanfile.specs.declared.faults.Fault.TheVariants.{BytesFollow}
 use Rattle.scanfile.specs.Layout.{second_at, third_at, fourth_at, third_after, end_after, margin_at, marked, last_end}
-use Rattle.scanfile.specs.Faults.{unit_in, record_fault, options_fault}
+use Rattle.scanfile.specs.Faults.{fault_if, unit_in, record_fault, options_fault}
 use Rattle.scanfile.specs.Scans.{head_of, refuse, fourth_fault, after_last, after_third, scan_of}
 use Rattle.scanfile.specs.Facts.{EndsThird, EndsFourth, GoodFile}
-use Rattle.scanfile.proofs.FaultLaws.{GoodRecord, passed, passes, options-size, whole-size, margin-size, options-passed, options-pass}
+use Rattle.scanfile.proofs.FaultLaws.{not_passed, GoodRecord, passed, passes, options-size, points-size, faces-size, margin-size, options-passed, options-pass}
 use Rattle.scanfile.proofs.ScanLaws.{after_second, after_options, not-refused, NoneRefused, three-passed, no-head, a-head, margin-passed, margin-absent, all-good}
 
 -- ---- all tests of a good file
 
 record AllPassed (bytes : List ℕ) (h : Head) : Type 0 where
   none_refused : NoneRefused bytes
-  fourth : fourth_fault bytes ≡ 0
+  fourth : fourth_fault bytes ≡ Ok tt
   none_spare : length bytes ≤ last_end bytes
   head_is : h ≡ head_of bytes
 
-no-spare : (t : Bool) → ◌≡◌ {A = ℕ} (cond t 25 0) 0 → t ≡ false
-no-spare true e = absurd (omega arith)
+no-spare : (t : Bool) → fault_if t BytesFollow (Ok tt) ≡ Ok tt → t ≡ false
+no-spare true e = absurd (not_passed e)
 no-spare false e = refl
 
-all-passed : (bytes : List ℕ) (h : Head) → scan_of bytes ≡ Good h → AllPassed bytes h
+all-passed : (bytes : List ℕ) (h : Head) → scan_of bytes ≡ Ok h → AllPassed bytes h
 unfolding scan_of
 all-passed bytes h e =
     let third = third_at bytes in
@@ -43,7 +44,7 @@ all-passed bytes h e =
     let c = not-refused (record_fault bytes 2 second_at) second_at (after_second bytes) h b.1 in
     let d = not-refused (record_fault bytes 3 third) third (after_third bytes) h c.1 in
     let f = not-refused (fourth_fault bytes) (fourth_at bytes) (after_last bytes) h d.1 in
-    let g = not-refused (cond (ltb (last_end bytes) (length bytes)) 25 0) (last_end bytes) (Good (head_of bytes)) h f.1 in
+    let g = not-refused (fault_if (ltb (last_end bytes) (length bytes)) BytesFollow (Ok tt)) (last_end bytes) (Ok (head_of bytes)) h f.1 in
     let same = g.1 in
     record {
       none_refused = record { first = a.0; options = b.0; second = c.0; third = d.0 };
@@ -89,7 +90,7 @@ module _ {bytes : List ℕ} {h : Head} (p : AllPassed bytes h) (here : fourth_at
 
 -- ---- good, and what that is
 
-pub good-file : (bytes : List ℕ) (h : Head) → scan_of bytes ≡ Good h → GoodFile bytes h
+pub good-file : (bytes : List ℕ) (h : Head) → scan_of bytes ≡ Ok h → GoodFile bytes h
 good-file bytes h e =
     let p = all-passed bytes h e in
     let first = passed bytes 1 0 p.none_refused.first in
@@ -98,8 +99,8 @@ good-file bytes h e =
     let o = options-passed bytes p.none_refused.options in
     let points : h.points ≡ size_at bytes second_at / 12 = ap (λ (x : Head). x.points) p.head_is in
     let faces : h.faces ≡ size_at bytes (third_at bytes) / 12 = ap (λ (x : Head). x.faces) p.head_is in
-    let second_size : size_at bytes second_at ≡ 12 * h.points = omega (arith, whole-size refl refl second) in
-    let third_size : size_at bytes (third_at bytes) ≡ 12 * h.faces = omega (arith, whole-size refl refl third) in
+    let second_size : size_at bytes second_at ≡ 12 * h.points = omega (arith, points-size second) in
+    let third_size : size_at bytes (third_at bytes) ≡ 12 * h.faces = omega (arith, faces-size third) in
     let here : fourth_at bytes ≡ end_after h.points h.faces = omega arith in
     record {
       head_is = p.head_is;
@@ -173,7 +174,7 @@ module _ {bytes : List ℕ} {h : Head} (g : GoodFile bytes h) where
       }
 
   -- and so does what follows them
-  good-end : EndsThird bytes h ⊎ EndsFourth bytes h → Good h ≡ after_third bytes
+  good-end : EndsThird bytes h ⊎ EndsFourth bytes h → Ok h ≡ after_third bytes
   good-end (inl e) =
       let absent = not-marked e.whole in
       let end : fourth_at bytes ≡ last_end bytes = rw absent refl in
@@ -187,11 +188,11 @@ module _ {bytes : List ℕ} {h : Head} (g : GoodFile bytes h) where
       record { kind_right = rw here e.fourth_kind; size_right = no-rest (size_at bytes (fourth_at bytes) % 4) (omega arith); size_most = omega arith; room = omega arith } in
       all-good bytes (next_at bytes (fourth_at bytes)) end (omega arith) h g.head_is ∙ margin-passed bytes marks (passes bytes 4 (fourth_at bytes) fourth)
 
-pub file-good : (bytes : List ℕ) (h : Head) → GoodFile bytes h → scan_of bytes ≡ Good h
+pub file-good : (bytes : List ℕ) (h : Head) → GoodFile bytes h → scan_of bytes ≡ Ok h
 file-good bytes h g = sym (good-end g g.ends ∙ three-passed (none_refused g))
 
 -- the longest good file
-pub good-longest : (bytes : List ℕ) (h : Head) → scan_of bytes ≡ Good h → length bytes ≤ 5156
+pub good-longest : (bytes : List ℕ) (h : Head) → scan_of bytes ≡ Ok h → length bytes ≤ 5156
 good-longest bytes h e = by_end (good-file bytes h e).ends
   where
     by_end : EndsThird bytes h ⊎ EndsFourth bytes h → length bytes ≤ 5156

@@ -1,10 +1,10 @@
 -- A program that stops reading at one byte over the longest good file gives the same answer.
 -- Assumes nothing.
-use Prim.Native.Nat.{ℕ, zero, suc, ◌+◌, ◌≤◌, ◌<◌}
+use Prim.Native.Nat.{ℕ, ◌+◌, ◌≤◌, ◌<◌}
 use native.Mathlib.Omega.{arith}
 use mathlib.Core.Path.{◌≡◌, refl, sym, ap, ◌∙◌}
 use mathlib.Core.List.{List}
-use mathlib.Core.Bool.{Bool, true, false, not, cond}
+use mathlib.Core.Bool.{Bool, true, false, not}
 use lib.Dec.{ltb, eqb}
 use lib.ListN.{length, take}
 use lib.Seq.{take_all, length-take-le}
@@ -13,25 +13,28 @@ use Rattle.lists.proofs.TestLaws.{by-test}
 use Rattle.records.specs.Words.{two_bytes, four_bytes}
 use Rattle.records.specs.Records.{head_length, size_at, kind_at}
 use Rattle.records.proofs.WordLaws.{two-begun, four-begun}
-use Rattle.scanfile.specs.declared.Scan.{Scan}
+use Rattle.std.specs.Prelude.{Result, Ok, Err}
+use Rattle.scanfile.specs.declared.faults.Fault.{Fault}
+use Rattle.scanfile.specs.declared.faults.Fault.TheVariants.{CutShort, OtherKind, WrongSize, TooMany}
 use Rattle.scanfile.specs.Layout.{second_at, third_at, fourth_at, has_head, marked, last_end}
-use Rattle.scanfile.specs.Faults.{wrong_size, most_of, record_fault, options_fault}
-use Rattle.scanfile.specs.Scans.{head_of, refuse, fourth_fault, after_last, after_third, scan_of}
+use Rattle.scanfile.specs.Faults.{fault_if, wrong_size, most_of, record_fault, options_fault}
+use Rattle.scanfile.specs.Scans.{Scan, head_of, refuse, fourth_fault, after_last, after_third, scan_of}
 use Rattle.scanfile.proofs.ScanLaws.{after_second, after_options}
 use Rattle.scanfile.proofs.FaultLaws.{passed}
 
 -- what comes next matters only where nothing refused
-same_next : (n n' place place' : ℕ) (next next' : Scan) → n ≡ n' → place ≡ place' → (n' ≡ 0 → next ≡ next') →
-    refuse n place next ≡ refuse n' place' next'
-same_next n n' place place' next next' number here same = rw (number, here) (by_number n' same)
+same_next : (t t' : Result Unit Fault) (place place' : ℕ) (next next' : Scan) → t ≡ t' → place ≡ place' → (t' ≡ Ok tt → next ≡ next') →
+    refuse t place next ≡ refuse t' place' next'
+same_next t t' place place' next next' test here same = rw (test, here) (by_test t' same)
   where
-    by_number : (k : ℕ) → (k ≡ 0 → next ≡ next') → refuse k place' next ≡ refuse k place' next'
-    by_number zero same = same refl
-    by_number (suc k) same = refl
+    by_test : (t : Result Unit Fault) → (t ≡ Ok tt → next ≡ next') → refuse t place' next ≡ refuse t place' next'
+    by_test (Ok none) same = same refl
+    by_test (Err fault) same = refl
 
 -- the last test of a record matters only where there are not too many
 same_tests : (a b c d d' : Bool) → (c ≡ false → d ≡ d') →
-    ◌≡◌ {A = ℕ} (cond a 22 (cond b 23 (cond c 27 (cond d 21 0)))) (cond a 22 (cond b 23 (cond c 27 (cond d' 21 0))))
+    fault_if a OtherKind (fault_if b WrongSize (fault_if c TooMany (fault_if d CutShort (Ok tt))))
+    ≡ fault_if a OtherKind (fault_if b WrongSize (fault_if c TooMany (fault_if d' CutShort (Ok tt))))
 same_tests a b true d d' same = refl
 same_tests a b false d d' same = rw (same refl) refl
 
@@ -51,7 +54,7 @@ module _ (n : ℕ) (most : 5157 ≤ n) (bytes : List ℕ) (long : n ≤ length b
   same-four at h = four-begun n bytes at (omega arith)
 
   -- a record that would end within the longest file, were it as long as it may be
-  same-fault : (kind at : ℕ) → at + head_length + most_of kind ≤ 5156 → record_fault begin kind at ≡ record_fault bytes kind at
+  same-fault : (kind : ℕ) (at : ℕ) → at + head_length + most_of kind ≤ 5156 → record_fault begin kind at ≡ record_fault bytes kind at
   unfolding record_fault
   same-fault kind at h =
       let size = size_at bytes at in
@@ -108,7 +111,7 @@ module _ (n : ℕ) (most : 5157 ≤ n) (bytes : List ℕ) (long : n ≤ length b
           ) refl
 
       -- where it is not refused the last record ends within the longest file
-      fourth-most : fourth_fault bytes ≡ 0 → last_end bytes ≤ 5156
+      fourth-most : fourth_fault bytes ≡ Ok tt → last_end bytes ≤ 5156
       fourth-most none =
           by-test (marked bytes)
           (λ marks. let good = passed bytes 4 (fourth_at bytes) (rw marks at none) in rw marks (omega (arith, good.size_most)))

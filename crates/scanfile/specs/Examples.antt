@@ -1,15 +1,15 @@
 -- The example square of document 01 as a file, with a fourth record and without, and small changes of it: what each is, as one list with one proof
 -- by computation.
-use Rattle.std.specs.Prelude.{ℕ, ◌≡◌, refl, List, [], ◌∷◌, ◌++◌, map, true, false, take, set, pos, negsuc, Float}
+use Rattle.std.specs.Prelude.{ℕ, ◌≡◌, refl, List, [], ◌∷◌, ◌++◌, map, true, false, take, set, pos, negsuc, Float, Ok, Err, Some, None}
 use Rattle.std.specs.Float.{nan, fin}
 use Rattle.std.specs.Float.Ieee.{of_bits}
 use Rattle.units.specs.declared.Unit.TheVariants.{Millimetre, Micrometre}
-use Rattle.placement.specs.declared.Limit.TheVariants.{Unlimited, AtMost}
 use Rattle.records.specs.Words.{numbers_from}
 use Rattle.scanfile.specs.declared.Head.{Head}
-use Rattle.scanfile.specs.declared.Scan.{Scan}
-use Rattle.scanfile.specs.declared.Scan.TheVariants.{Good, Bad}
-use Rattle.scanfile.specs.Scans.{scan_of}
+use Rattle.scanfile.specs.declared.faults.Fault.{Fault}
+use Rattle.scanfile.specs.declared.faults.Fault.TheVariants.{CutShort, OtherKind, WrongSize, UnknownUnit, BytesFollow, UnknownFlag, TooMany}
+use Rattle.scanfile.specs.Faults.{bad_file}
+use Rattle.scanfile.specs.Scans.{Scan, scan_of}
 use Rattle.scanfile.specs.Contents.{points_of, face_numbers_of, margin_of}
 
 -- 0.0, 1.0, 2.0 and 0.5
@@ -45,7 +45,11 @@ square =
 
 -- the square's head, with a margin of so many points
 abbrev head_with : ℕ → Head
-head_with m = record { unit = Millimetre; preserve = false; limit = Unlimited; ratio = half; points = 5; faces = 4; margin = m }
+head_with m = record { unit = Millimetre; preserve = false; limit = None; ratio = half; points = 5; faces = 4; margin = m }
+
+-- a file refused at a place
+abbrev bad : Fault → ℕ → Scan
+bad fault place = Err (bad_file fault place)
 
 -- a head of kind 4, with a payload of low + 256 * high bytes
 abbrev fourth : ℕ → ℕ → List ℕ
@@ -60,58 +64,58 @@ margin_square = square ++ (fourth 8 0 ++ (0 ∷ 0 ∷ 0 ∷ 0 ∷ 2 ∷ 0 ∷ 0 
 pub examples : List (List ℕ × Scan)
 unfolding square margin_square
 examples =
-    (square, Good (head_with 0))
+    (square, Ok (head_with 0))
     -- the third record's payload is cut short, the second's head, the second's payload
-    ∷ (take 137 square, Bad 21 84)
-    ∷ (take 23 square, Bad 21 18)
-    ∷ (take 83 square, Bad 21 18)
-    ∷ ([], Bad 21 0)
+    ∷ (take 137 square, bad CutShort 84)
+    ∷ (take 23 square, bad CutShort 18)
+    ∷ (take 83 square, bad CutShort 18)
+    ∷ ([], bad CutShort 0)
     -- the second record says kind 3
-    ∷ (set square 22 3, Bad 22 18)
+    ∷ (set square 22 3, bad OtherKind 18)
     -- the first record is 24 long, the second no multiple of 12
-    ∷ (set square 0 24, Bad 23 0)
-    ∷ (set square 18 61, Bad 23 18)
+    ∷ (set square 0 24, bad WrongSize 0)
+    ∷ (set square 18 61, bad WrongSize 18)
     -- unit 3; unit 3 comes before flag bit 2
-    ∷ (set square 6 3, Bad 24 0)
-    ∷ (set (set square 6 3) 8 4, Bad 24 0)
+    ∷ (set square 6 3, bad UnknownUnit 0)
+    ∷ (set (set square 6 3) 8 4, bad UnknownUnit 0)
     -- one byte more, and two
-    ∷ (square ++ 0 ∷ [], Bad 25 138)
-    ∷ (square ++ 7 ∷ 7 ∷ [], Bad 25 138)
+    ∷ (square ++ 0 ∷ [], bad BytesFollow 138)
+    ∷ (square ++ 7 ∷ 7 ∷ [], bad BytesFollow 138)
     -- flag bit 2
-    ∷ (set square 8 4, Bad 26 0)
+    ∷ (set square 8 4, bad UnknownFlag 0)
     -- 129 points, 257 faces; 27 comes before the cut payload, as it is here
-    ∷ (set (set square 18 0x0c) 19 6, Bad 27 18)
-    ∷ (set (set square 84 0x0c) 85 12, Bad 27 84)
+    ∷ (set (set square 18 0x0c) 19 6, bad TooMany 18)
+    ∷ (set (set square 84 0x0c) 85 12, bad TooMany 84)
     -- the largest multiple of 12 below 2^32
-    ∷ (set (set (set (set square 18 0xfc) 19 0xff) 20 0xff) 21 0xff, Bad 27 18)
+    ∷ (set (set (set (set square 18 0xfc) 19 0xff) 20 0xff) 21 0xff, bad TooMany 18)
     -- both flags, with the limit 2.0, and micrometre
     ∷ (
       set (set (set square 8 3) 17 0x40) 6 2,
-      Good (record { unit = Micrometre; preserve = true; limit = AtMost two; ratio = half; points = 5; faces = 4; margin = 0 }),
+      Ok (record { unit = Micrometre; preserve = true; limit = Some two; ratio = half; points = 5; faces = 4; margin = 0 }),
     )
     -- a limit without its flag is not looked at
-    ∷ (set square 17 0x40, Good (head_with 0))
+    ∷ (set square 17 0x40, Ok (head_with 0))
     -- a ratio that is NaN is for the thinner to refuse
-    ∷ (set (set square 12 0xc0) 13 0x7f, Good (record { unit = Millimetre; preserve = false; limit = Unlimited; ratio = nan; points = 5; faces = 4; margin = 0 }))
+    ∷ (set (set square 12 0xc0) 13 0x7f, Ok (record { unit = Millimetre; preserve = false; limit = None; ratio = nan; points = 5; faces = 4; margin = 0 }))
     -- a margin of two points, and one that names none
-    ∷ (margin_square, Good (head_with 2))
-    ∷ (square ++ fourth 0 0, Good (head_with 0))
+    ∷ (margin_square, Ok (head_with 2))
+    ∷ (square ++ fourth 0 0, Ok (head_with 0))
     -- a tail of five bytes of a kind 4 head, and of a whole head of kind 3, 5 and 1028, whose low byte is 4
-    ∷ (take 143 margin_square, Bad 25 138)
-    ∷ (set margin_square 142 3, Bad 25 138)
-    ∷ (set margin_square 142 5, Bad 25 138)
-    ∷ (set margin_square 143 4, Bad 25 138)
+    ∷ (take 143 margin_square, bad BytesFollow 138)
+    ∷ (set margin_square 142 3, bad BytesFollow 138)
+    ∷ (set margin_square 142 5, bad BytesFollow 138)
+    ∷ (set margin_square 143 4, bad BytesFollow 138)
     -- kind 4 is no multiple of 4
-    ∷ (set margin_square 138 6, Bad 23 138)
+    ∷ (set margin_square 138 6, bad WrongSize 138)
     -- 129 points, and the largest multiple of 4 below 2^32; 27 comes before the cut payload, as it is here
-    ∷ (square ++ fourth 4 2, Bad 27 138)
-    ∷ (set (set (set (set margin_square 138 0xfc) 139 0xff) 140 0xff) 141 0xff, Bad 27 138)
+    ∷ (square ++ fourth 4 2, bad TooMany 138)
+    ∷ (set (set (set (set margin_square 138 0xfc) 139 0xff) 140 0xff) 141 0xff, bad TooMany 138)
     -- 128 points, and two, cut short
-    ∷ (square ++ fourth 0 2, Bad 21 138)
-    ∷ (take 151 margin_square, Bad 21 138)
+    ∷ (square ++ fourth 0 2, bad CutShort 138)
+    ∷ (take 151 margin_square, bad CutShort 138)
     -- one byte after kind 4, and a second kind 4
-    ∷ (margin_square ++ 0 ∷ [], Bad 25 152)
-    ∷ (margin_square ++ fourth 0 0, Bad 25 152)
+    ∷ (margin_square ++ 0 ∷ [], bad BytesFollow 152)
+    ∷ (margin_square ++ fourth 0 0, bad BytesFollow 152)
     ∷ []
 
 pub examples-hold : map (λ c. scan_of c.0) examples ≡ map (λ c. c.1) examples

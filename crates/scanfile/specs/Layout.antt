@@ -2,6 +2,16 @@
 -- absent (document 02, wish 2).
 use Rattle.std.specs.Prelude.{ℕ, ◌+◌, ◌*◌, List, Bool, ◌&&◌, cond, leb, eqb, length}
 use Rattle.records.specs.Records.{head_length, size_at, kind_at, next_at}
+use Rattle.scanfile.specs.declared.layout.RecordKind.{RecordKind}
+use Rattle.scanfile.specs.declared.layout.RecordKind.TheVariants.{Options, Points, Faces, Margin}
+
+-- ---- the kinds of records
+
+abbrev pub kind_number : RecordKind → ℕ
+kind_number Options = 1
+kind_number Points = 2
+kind_number Faces = 3
+kind_number Margin = 4
 
 -- ---- the limits of a file
 

@@ -1,14 +1,15 @@
 -- What a file is: refused by number and place, or good, with its head (document 01, "The program and its file"; document 02, wish 2).
-use Rattle.std.specs.Prelude.{ℕ, zero, suc, ◌/◌, ◌%◌, List, Bool, cond, ltb, eqb, length}
+use Rattle.std.specs.Prelude.{ℕ, ◌/◌, ◌%◌, List, Bool, cond, ltb, eqb, length, Result, Ok, Err}
 use Rattle.units.specs.Units.{unit_of}
 use Rattle.placement.specs.Choices.{limit_of}
 use Rattle.records.specs.Words.{four_bytes, float_at}
 use Rattle.records.specs.Records.{size_at}
 use Rattle.scanfile.specs.declared.Head.{Head}
-use Rattle.scanfile.specs.declared.Scan.{Scan}
-use Rattle.scanfile.specs.declared.Scan.TheVariants.{Good, Bad}
+use Rattle.scanfile.specs.declared.faults.Fault.{Fault}
+use Rattle.scanfile.specs.declared.faults.Fault.TheVariants.{BytesFollow}
+use Rattle.scanfile.specs.declared.faults.BadFile.{BadFile}
 use Rattle.scanfile.specs.Layout.{ratio_at, limit_at, second_at, third_at, fourth_at, marked, last_end}
-use Rattle.scanfile.specs.Faults.{record_fault, unit_in, flags_in, options_fault}
+use Rattle.scanfile.specs.Faults.{fault_if, record_fault, unit_in, flags_in, options_fault, bad_file}
 
 -- bit 0 of the flags: preserve; bit 1: a limit is present
 abbrev pub preserve_in : List ℕ → Bool
@@ -34,18 +35,22 @@ head_of bytes =
       margin = margin_count bytes;
     }
 
--- refused by a number at a place; where the number is 0, what comes next
-abbrev pub refuse : ℕ → ℕ → Scan → Scan
-refuse zero place next = next
-refuse (suc n) place next = Bad (suc n) place
+-- what a file is: good, with its head, or refused
+abbrev pub Scan : Type 0
+Scan = Result Head BadFile
+
+-- refused at a place where a test refuses; where it does not, what comes next
+abbrev pub refuse : Result Unit Fault → ℕ → Scan → Scan
+refuse (Ok none) place next = next
+refuse (Err fault) place next = Err (bad_file fault place)
 
 -- no spare byte after the last record
 abbrev pub after_last : List ℕ → Scan
-after_last bytes = refuse (cond (ltb (last_end bytes) (length bytes)) 25 0) (last_end bytes) (Good (head_of bytes))
+after_last bytes = refuse (fault_if (ltb (last_end bytes) (length bytes)) BytesFollow (Ok tt)) (last_end bytes) (Ok (head_of bytes))
 
--- the number that refuses the fourth record, or 0, as where there is none
-abbrev pub fourth_fault : List ℕ → ℕ
-fourth_fault bytes = cond (marked bytes) (record_fault bytes 4 (fourth_at bytes)) 0
+-- what refuses the fourth record; nothing where there is none
+abbrev pub fourth_fault : List ℕ → Result Unit Fault
+fourth_fault bytes = cond (marked bytes) (record_fault bytes 4 (fourth_at bytes)) (Ok tt)
 
 -- the fourth record, or none
 abbrev pub after_third : List ℕ → Scan

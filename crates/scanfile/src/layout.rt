@@ -1,4 +1,23 @@
-// Where things stand in a file, and its limits (specs/Layout.antt).
+// A file's records, where things stand in it, and its limits (specs/Layout.antt).
+ghost use Rattle.std.specs.Prelude.{◌≡◌};
+ghost use Rattle.scanfile.specs.Layout.{kind_number};
+
+// The records, by their kinds' numbers: three in this order, and then the margin or none.
+#[derive(Clone, Copy, PartialEq, Eq, Debug)]
+pub enum RecordKind {
+    Options = 1,
+    Points = 2,
+    Faces = 3,
+    Margin = 4,
+}
+
+impl From<RecordKind> for u32 {
+    ghost from_gives = { λ kind n. n ≡ kind_number kind };
+
+    fn from(kind: RecordKind) -> u32 {
+        kind as u32
+    }
+}
 
 // The most points and faces.
 pub const MOST_POINTS: usize = 128;

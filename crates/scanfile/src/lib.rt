@@ -9,15 +9,16 @@ ghost use Rattle.scanfile.specs.Contents.{points_of, face_numbers_of, margin_of}
 ghost use Rattle.lists.specs.Lists.{overlaid};
 ghost use Rattle.scanfile.specs.Clauses.{ThreeThere, PointsThere, FacesThere, NumbersThere, MarginThere};
 
-use faults::{has_head, options_fault, record_fault};
-use layout::{FLAGS_AT, LIMIT_AT, POINTS_AT, RATIO_AT, SECOND_AT, UNIT_AT};
-use placement::{Limit, limit_of};
+use faults::{check_options, check_record, has_head};
+use layout::{FLAGS_AT, LIMIT_AT, POINTS_AT, RATIO_AT, RecordKind, SECOND_AT, UNIT_AT};
 use records::{HEAD_LENGTH, float_at, four_bytes, two_bytes};
-use units::{Unit, unit_of};
+use units::Unit;
 
 pub mod faults;
 pub mod layout;
 pub mod told;
+
+pub use faults::{BadFile, Fault};
 
 // The longest good file: four heads of 6 bytes, 12 bytes of options, 128 points and 256 faces of 12 bytes each, and 128 points of the
 // margin of 4 bytes each.
@@ -28,7 +29,7 @@ pub const MOST_BYTES: usize = 5156;
 pub struct Head {
     pub unit: Unit,
     pub preserve: bool,
-    pub limit: Limit,
+    pub limit: Option<f32>,
     pub ratio: f32,
     // at most 128 and 256
     pub points: usize,
@@ -37,23 +38,16 @@ pub struct Head {
     pub margin: usize,
 }
 
-// What a file is: good, or refused by a number, 21 to 27, and a place.
-#[derive(Clone, Copy)]
-pub enum Scan {
-    Good(Head),
-    Bad(u32, u32),
-}
-
 // The head of a good file, whose third record starts at an offset, and whose margin names so many points.
 fn head_of(bytes: &[u8], third: usize, margin: usize) -> Head
-    requires fact_1 { ThreeThere bytes.now third }
-    requires fact_2 { margin ≡ margin_count bytes.now }
+    requires three_there { ThreeThere bytes.now third }
+    requires margin_is { margin ≡ margin_count bytes.now }
     ensures { result ≡ head_of bytes.now }
 {
     let flags = two_bytes(bytes, FLAGS_AT);
-    let limit = limit_of(flags / 2 % 2 == 1, float_at(bytes, LIMIT_AT));
+    let limit = (flags / 2 % 2 == 1).then_some(float_at(bytes, LIMIT_AT));
     Head {
-        unit: unit_of(two_bytes(bytes, UNIT_AT)),
+        unit: Unit::try_from(two_bytes(bytes, UNIT_AT)).unwrap(),
         preserve: flags % 2 == 1,
         limit,
         ratio: float_at(bytes, RATIO_AT),
@@ -64,58 +58,43 @@ fn head_of(bytes: &[u8], third: usize, margin: usize) -> Head
 }
 
 // What a file is none of whose records is refused. The third starts at an offset, the last ends at one, and the margin names so many points.
-fn read_end(bytes: &[u8], at: usize, end: usize, margin: usize) -> Scan
-    requires fact_1 { ThreeThere bytes.now at }
-    requires fact_2 { end ≡ last_end bytes.now }
-    requires fact_3 { end ≤ 5156 }
-    requires fact_4 { margin ≡ margin_count bytes.now }
+fn read_end(bytes: &[u8], third: usize, end: usize, margin: usize) -> Result<Head, BadFile>
+    requires three_there { ThreeThere bytes.now third }
+    requires end_is { end ≡ last_end bytes.now }
+    requires end_most { end ≤ 5156 }
+    requires margin_is { margin ≡ margin_count bytes.now }
     ensures { result ≡ after_last bytes.now }
 {
     if end < bytes.len() {
-        return Scan::Bad(25, end as u32);
+        return Err(Fault::BytesFollow.at(end));
     }
-    Scan::Good(head_of(bytes, at, margin))
+    Ok(head_of(bytes, third, margin))
 }
 
 // What a file is none of whose first three records is refused. The third starts at an offset.
-fn read_tail(bytes: &[u8], at: usize) -> Scan
-    requires { ThreeThere bytes.now at }
+fn read_tail(bytes: &[u8], third: usize) -> Result<Head, BadFile>
+    requires { ThreeThere bytes.now third }
     ensures { result ≡ after_third bytes.now }
 {
-    let fourth = at + HEAD_LENGTH + four_bytes(bytes, at) as usize;
-    if !has_head(bytes, 4, fourth) {
-        return read_end(bytes, at, fourth, 0);
+    let fourth = third + HEAD_LENGTH + four_bytes(bytes, third) as usize;
+    if !has_head(bytes, u32::from(RecordKind::Margin), fourth) {
+        return read_end(bytes, third, fourth, 0);
     }
-    let fault = record_fault(bytes, 4, fourth);
-    if fault != 0 {
-        return Scan::Bad(fault, fourth as u32);
-    }
+    check_record(bytes, RecordKind::Margin, fourth)?;
     let size = four_bytes(bytes, fourth) as usize;
-    read_end(bytes, at, fourth + HEAD_LENGTH + size, size / 4)
+    read_end(bytes, third, fourth + HEAD_LENGTH + size, size / 4)
 }
 
-// What a file is.
-pub fn read_scan(bytes: &[u8]) -> Scan
+// What a file is: good, with its head, or refused.
+pub fn read_scan(bytes: &[u8]) -> Result<Head, BadFile>
     ensures { result ≡ scan_of bytes.now }
 {
-    let first = record_fault(bytes, 1, 0);
-    if first != 0 {
-        return Scan::Bad(first, 0);
-    }
-    let options = options_fault(bytes);
-    if options != 0 {
-        return Scan::Bad(options, 0);
-    }
-    let second = record_fault(bytes, 2, SECOND_AT);
-    if second != 0 {
-        return Scan::Bad(second, SECOND_AT as u32);
-    }
-    let at = POINTS_AT + four_bytes(bytes, SECOND_AT) as usize;
-    let third = record_fault(bytes, 3, at);
-    if third != 0 {
-        return Scan::Bad(third, at as u32);
-    }
-    read_tail(bytes, at)
+    check_record(bytes, RecordKind::Options, 0)?;
+    check_options(bytes)?;
+    check_record(bytes, RecordKind::Points, SECOND_AT)?;
+    let third = POINTS_AT + four_bytes(bytes, SECOND_AT) as usize;
+    check_record(bytes, RecordKind::Faces, third)?;
+    read_tail(bytes, third)
 }
 
 // Reads the coordinates of so many points, three each, to the beginning of out.
@@ -123,8 +102,8 @@ pub fn read_points(bytes: &[u8], points: usize, out: &mut [f32])
     requires { PointsThere bytes.now points out.old }
     ensures { out.new ≡ overlaid (points_of bytes.now points) out.old }
 {
-    for i in 0..3 * points {
-        out[i] = float_at(bytes, POINTS_AT + 4 * i);
+    for (i, cell) in out[..3 * points].iter_mut().enumerate() {
+        *cell = float_at(bytes, POINTS_AT + 4 * i);
     }
 }
 
@@ -133,8 +112,8 @@ fn read_numbers(bytes: &[u8], at: usize, n: usize, out: &mut [u32])
     requires { NumbersThere bytes.now at n out.old }
     ensures { out.new ≡ overlaid (numbers_from bytes.now at n) out.old }
 {
-    for i in 0..n {
-        out[i] = four_bytes(bytes, at + 4 * i);
+    for (i, cell) in out[..n].iter_mut().enumerate() {
+        *cell = four_bytes(bytes, at + 4 * i);
     }
 }
 

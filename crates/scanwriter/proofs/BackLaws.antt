@@ -16,7 +16,7 @@ use Rattle.units.proofs.UnitLaws.{number_known, number-of-unit}
 use Rattle.records.specs.Words.{four_bytes, numbers_from}
 use Rattle.records.proofs.WordLaws.{numbers-count, number_at, four-small}
 use Rattle.scanfile.specs.declared.Head.{Head}
-use Rattle.scanfile.specs.declared.Scan.TheVariants.{Good}
+use Rattle.std.specs.Prelude.{Ok}
 use Rattle.scanfile.specs.Layout.{points_at, faces_at}
 use Rattle.scanfile.specs.Faults.{unit_in}
 use Rattle.scanfile.specs.Scans.{scan_of}
@@ -24,7 +24,7 @@ use Rattle.scanfile.specs.Contents.{points_of, face_numbers_of}
 use Rattle.scanfile.specs.Files.{Writable, contents_of, file_of}
 use Rattle.scanfile.proofs.GoodLaws.{good-file, not-marked}
 use Rattle.scanfile.proofs.FileLaws.{good-written, written-length, found, written-good, written-points, written-faces}
-use Rattle.scanwriter.specs.declared.Writing.TheVariants.{Bytes}
+use Rattle.std.specs.Prelude.{Ok}
 use Rattle.scanwriter.specs.Written.{scan_contents, scan_bytes, buffer_after, ScanWritten}
 use Rattle.scanwriter.specs.Clauses.{ScanFits}
 use Rattle.scanwriter.specs.Back.{ReadBack, written_again, ZeroOptions, NoMargin, OneNan}
@@ -73,12 +73,12 @@ module _ {unit : ℕ} {points : List Float} {faces file : List ℕ} (fit : ScanF
 
 -- ---- what the writer leaves where it answers so many bytes
 
-module _ {unit : ℕ} {points : List Float} {faces old new : List ℕ} {n : ℕ} (done : ScanWritten unit points faces old new (Bytes n)) where
+module _ {unit : ℕ} {points : List Float} {faces old new : List ℕ} {n : ℕ} (done : ScanWritten unit points faces old new (Ok n)) where
   fit : ScanFits unit points faces old
   fit = (writing.fits unit points faces old n (sym done.answered)).0
 
   -- the file stands over the beginning
-  pub written_over : new ≡ buffer_after (Bytes n) (scan_bytes unit points faces) old
+  pub written_over : new ≡ buffer_after (Ok n) (scan_bytes unit points faces) old
   written_over = rw (sym done.answered) at done.written
 
   -- and is so many bytes
@@ -127,7 +127,7 @@ patterns-back (n ∷ ns) each =
     let more = patterns-back ns (λ i l. each (suc i) (omega arith)) in
     cc
 
-module _ (bytes : List ℕ) (h : Head) (good : scan_of bytes ≡ Good h) where
+module _ (bytes : List ℕ) (h : Head) (good : scan_of bytes ≡ Ok h) where
   -- only if kind 1 had those zeros and there was no kind 4
   pub same-only-if : written_again bytes h ≡ bytes → ZeroOptions bytes × NoMargin bytes
   same-only-if same =

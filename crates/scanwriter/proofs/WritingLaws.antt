@@ -17,8 +17,9 @@ use Rattle.records.specs.Records.{head_bytes, record_bytes, records_bytes}
 use Rattle.records.proofs.WordLaws.{fours-length}
 use Rattle.scanfile.specs.Layout.{most_points, most_faces, second_at, third_after}
 use Rattle.scanfile.specs.Files.{options_record}
-use Rattle.scanwriter.specs.declared.Writing.{Writing}
-use Rattle.scanwriter.specs.declared.Writing.TheVariants.{Bytes, Refused}
+use Rattle.std.specs.Prelude.{Result, Ok, Err}
+use Rattle.scanwriter.specs.declared.WriteFault.{WriteFault}
+use Rattle.scanwriter.specs.declared.WriteFault.TheVariants.{UnevenList, UnknownUnit, TooMany, ShortBuffer}
 use Rattle.scanwriter.specs.Written.{scan_contents, scan_bytes, scan_room, writing_of, buffer_after, ScanWritten}
 use Rattle.scanwriter.specs.Clauses.{ScanFits}
 
@@ -35,7 +36,7 @@ record NoneHolds (a b c d e g : Bool) (end n : ℕ) : Type 0 where
   counted : n ≡ end
 
 none-holds : (a b c d e g : Bool) (third end n : ℕ) →
-    cond (not a || not b) (Refused 1 0) (cond (not c) (Refused 24 0) (cond d (Refused 27 second_at) (cond e (Refused 27 third) (cond g (Refused 31 0) (Bytes end))))) ≡ Bytes n →
+    cond (not a || not b) (Err UnevenList) (cond (not c) (Err UnknownUnit) (cond d (Err (TooMany second_at)) (cond e (Err (TooMany third)) (cond g (Err ShortBuffer) (Ok end))))) ≡ Ok n →
     NoneHolds a b c d e g end n
 none-holds false b c d e g third end n h = let z : ◌≡◌ {A = ℕ} 0 1 = cc in absurd (omega arith)
 none-holds true false c d e g third end n h = let z : ◌≡◌ {A = ℕ} 0 1 = cc in absurd (omega arith)
@@ -47,7 +48,7 @@ none-holds true true true false false false third end n h =
     record { points_by_three = refl; faces_by_three = refl; unit_known = refl; few_points = refl; few_faces = refl; enough = refl; counted = cc }
 
 -- what was given fits, and how many bytes it takes
-pub fits : (unit : ℕ) (points : List Float) (faces file : List ℕ) (n : ℕ) → writing_of unit (length points) (length faces) (length file) ≡ Bytes n →
+pub fits : (unit : ℕ) (points : List Float) (faces file : List ℕ) (n : ℕ) → writing_of unit (length points) (length faces) (length file) ≡ Ok n →
     ScanFits unit points faces file × (n ≡ scan_room (length points) (length faces))
 unfolding writing_of
 fits unit points faces file n e =
@@ -70,7 +71,7 @@ fits unit points faces file n e =
 
 -- and what fits is not refused
 pub taken : {unit : ℕ} {points : List Float} {faces file : List ℕ} → ScanFits unit points faces file →
-    writing_of unit (length points) (length faces) (length file) ≡ Bytes (scan_room (length points) (length faces))
+    writing_of unit (length points) (length faces) (length file) ≡ Ok (scan_room (length points) (length faces))
 unfolding writing_of
 taken {unit} {points} {faces} {file} fit =
     let p = length points in
@@ -106,18 +107,18 @@ scan-put unit points faces {t = t} {g = g} fit options points-head points-put fa
 -- ---- what is left
 
 module _ (unit : ℕ) (points : List Float) (faces old : List ℕ) where
-  pub all-written : {n r : ℕ} {new : List ℕ} → Bytes n ≡ writing_of unit (length points) (length faces) (length old) →
-      Put (scan_room (length points) (length faces)) (scan_bytes unit points faces) 0 old new r → ScanWritten unit points faces old new (Bytes n)
+  pub all-written : {n r : ℕ} {new : List ℕ} → Ok n ≡ writing_of unit (length points) (length faces) (length old) →
+      Put (scan_room (length points) (length faces)) (scan_bytes unit points faces) 0 old new r → ScanWritten unit points faces old new (Ok n)
   all-written {n} {r} {new} e done =
       let room = (fits unit points faces old n (sym e)).0.room in
-      record { answered = e; written = whole done room ∙ ap (λ (w : Writing). buffer_after w (scan_bytes unit points faces) old) e }
+      record { answered = e; written = whole done room ∙ ap (λ (w : Result ℕ WriteFault). buffer_after w (scan_bytes unit points faces) old) e }
 
-  pub none_written : {number place : ℕ} → Refused number place ≡ writing_of unit (length points) (length faces) (length old) →
-      ScanWritten unit points faces old old (Refused number place)
-  none_written e = record { answered = e; written = ap (λ (w : Writing). buffer_after w (scan_bytes unit points faces) old) e }
+  pub none_written : {fault : WriteFault} → Err fault ≡ writing_of unit (length points) (length faces) (length old) →
+      ScanWritten unit points faces old old (Err fault)
+  none_written e = record { answered = e; written = ap (λ (w : Result ℕ WriteFault). buffer_after w (scan_bytes unit points faces) old) e }
 
 -- the longest file that is written
-pub longest : {unit : ℕ} {points : List Float} {faces old new : List ℕ} {w : Writing} {n : ℕ} → ScanWritten unit points faces old new w → w ≡ Bytes n → n ≤ 4638
+pub longest : {unit : ℕ} {points : List Float} {faces old new : List ℕ} {w : Result ℕ WriteFault} {n : ℕ} → ScanWritten unit points faces old new w → w ≡ Ok n → n ≤ 4638
 longest {unit} {points} {faces} {old} {n = n} done is =
     let fit = fits unit points faces old n (sym done.answered ∙ is) in
     omega (arith, fit.0.points_most, fit.0.faces_most, fit.1)

@@ -1,11 +1,11 @@
 -- The writer on small examples. The proofs compute them from the definitions.
-use Rattle.std.specs.Prelude.{ℕ, ◌≡◌, refl, List, [], ◌∷◌, map, true, false, pos}
+use Rattle.std.specs.Prelude.{ℕ, ◌≡◌, refl, List, [], ◌∷◌, map, true, false, pos, Result, Ok, Err}
 use Rattle.std.specs.Float.{nan, fin}
 use Rattle.std.specs.Float.Ieee.{size, to_bits}
 use Rattle.records.specs.Words.{as_fours}
 use Rattle.records.specs.Records.{records_bytes}
-use Rattle.scanwriter.specs.declared.Writing.{Writing}
-use Rattle.scanwriter.specs.declared.Writing.TheVariants.{Bytes, Refused}
+use Rattle.scanwriter.specs.declared.WriteFault.{WriteFault}
+use Rattle.scanwriter.specs.declared.WriteFault.TheVariants.{UnevenList, UnknownUnit, TooMany, ShortBuffer}
 use Rattle.scanwriter.specs.Written.{scan_bytes, writing_of}
 
 -- ---- what writing comes to
@@ -20,26 +20,26 @@ pub record Asked : Type 0 where
 abbrev asked : ℕ → ℕ → ℕ → ℕ → Asked
 asked unit points faces room = record { unit = unit; points = points; faces = faces; room = room }
 
-pub examples : List (Asked × Writing)
+pub examples : List (Asked × Result ℕ WriteFault)
 examples =
     -- the example square: a buffer exactly full, and one byte short
-    (asked 1 15 12 138, Bytes 138)
-    ∷ (asked 1 15 12 137, Refused 31 0)
+    (asked 1 15 12 138, Ok 138)
+    ∷ (asked 1 15 12 137, Err ShortBuffer)
     -- an empty mesh, and the longest file
-    ∷ (asked 2 0 0 30, Bytes 30)
-    ∷ (asked 2 384 768 4638, Bytes 4638)
+    ∷ (asked 2 0 0 30, Ok 30)
+    ∷ (asked 2 384 768 4638, Ok 4638)
     -- a list's length; it comes before the unit
-    ∷ (asked 1 14 12 138, Refused 1 0)
-    ∷ (asked 0 15 11 0, Refused 1 0)
+    ∷ (asked 1 14 12 138, Err UnevenList)
+    ∷ (asked 0 15 11 0, Err UnevenList)
     -- the unit, of which no higher bit is dropped; it comes before too many
-    ∷ (asked 0 15 12 138, Refused 24 0)
-    ∷ (asked 65537 15 12 138, Refused 24 0)
-    ∷ (asked 3 387 771 0, Refused 24 0)
+    ∷ (asked 0 15 12 138, Err UnknownUnit)
+    ∷ (asked 65537 15 12 138, Err UnknownUnit)
+    ∷ (asked 3 387 771 0, Err UnknownUnit)
     -- 129 points, which come before 257 faces; they before the buffer
-    ∷ (asked 1 387 771 0, Refused 27 18)
-    ∷ (asked 1 384 771 0, Refused 27 1560)
-    ∷ (asked 1 3 771 0, Refused 27 36)
-    ∷ (asked 1 384 768 4637, Refused 31 0)
+    ∷ (asked 1 387 771 0, Err (TooMany 18))
+    ∷ (asked 1 384 771 0, Err (TooMany 1560))
+    ∷ (asked 1 3 771 0, Err (TooMany 36))
+    ∷ (asked 1 384 768 4637, Err ShortBuffer)
     ∷ []
 
 pub examples-hold : map (λ c. writing_of c.0.unit c.0.points c.0.faces c.0.room) examples ≡ map (λ c. c.1) examples

@@ -9,50 +9,81 @@ ghost use Rattle.lists.specs.Puts.{Put};
 ghost use Rattle.records.specs.Words.{as_fours};
 ghost use Rattle.records.specs.Records.{record_bytes};
 ghost use Rattle.scanfile.specs.Files.{options_record};
-ghost use Rattle.scanwriter.specs.Written.{scan_contents, scan_bytes, scan_room, writing_of, ScanWritten};
+ghost use Rattle.scanwriter.specs.Written.{scan_contents, scan_bytes, scan_room, fault_number, fault_place, writing_of, ScanWritten};
 ghost use Rattle.scanwriter.specs.Clauses.{ScanFits};
 
 use bits::patterns::bits_of_f32;
 use records::{put_four, put_head, put_two};
 use scanfile::layout::{MOST_FACES, MOST_POINTS, POINTS_AT, SECOND_AT};
-use units::is_unit;
+use units::Unit;
 
-// What writing came to: so many bytes; or a refusal by a number, 1, 24, 27 or 31, and a place, and nothing was written.
+// Why a mesh is not written.
 #[derive(Clone, Copy)]
-pub enum Writing {
-    Bytes(usize),
-    Refused(u32, u32),
+pub enum WriteFault {
+    // A list's length is no multiple of 3.
+    UnevenList,
+    // The unit is none of document 01's.
+    UnknownUnit,
+    // There are more points or more faces than a file may hold. Their record would stand here.
+    TooMany(u32),
+    // The buffer is too short.
+    ShortBuffer,
 }
 
-// What writing comes to, from the lengths of the lists and of the buffer.
-fn writing_of(unit: u32, points: usize, faces: usize, room: usize) -> Writing
+impl WriteFault {
+    // Its number: 1, 24, 27 or 31.
+    pub fn number(self) -> u32
+        ensures { result ≡ fault_number self }
+    {
+        match self {
+            WriteFault::UnevenList => 1,
+            WriteFault::UnknownUnit => 24,
+            WriteFault::TooMany(_) => 27,
+            WriteFault::ShortBuffer => 31,
+        }
+    }
+
+    // Its place, 0 where it has none.
+    pub fn place(self) -> u32
+        ensures { result ≡ fault_place self }
+    {
+        match self {
+            WriteFault::TooMany(offset) => offset,
+            _ => 0,
+        }
+    }
+}
+
+// How many bytes writing takes, from the lengths of the lists and of the buffer, or why nothing is written.
+#[tactic(auto, using(units::proofs::UnitLaws::known_read), unfolding(crate::specs::Written::writing_of))]
+fn writing_of(unit: u32, points: usize, faces: usize, room: usize) -> Result<usize, WriteFault>
     ensures { result ≡ writing_of unit points faces room }
 {
-    if (points % 3 != 0) | (faces % 3 != 0) {
-        return Writing::Refused(1, 0);
+    if points % 3 != 0 || faces % 3 != 0 {
+        return Err(WriteFault::UnevenList);
     }
-    if !is_unit(unit) {
-        return Writing::Refused(24, 0);
+    if Unit::try_from(unit).is_err() {
+        return Err(WriteFault::UnknownUnit);
     }
     let v = points / 3;
     if MOST_POINTS < v {
-        return Writing::Refused(27, SECOND_AT as u32);
+        return Err(WriteFault::TooMany(SECOND_AT as u32));
     }
     let f = faces / 3;
     if MOST_FACES < f {
-        return Writing::Refused(27, (POINTS_AT + 12 * v) as u32);
+        return Err(WriteFault::TooMany((POINTS_AT + 12 * v) as u32));
     }
     let end = 30 + 12 * v + 12 * f;
     if room < end {
-        return Writing::Refused(31, 0);
+        return Err(WriteFault::ShortBuffer);
     }
-    Writing::Bytes(end)
+    Ok(end)
 }
 
 // Writes the first record: the unit, no flags, ratio +0 and limit +0.
 fn put_options(file: &mut [u8], unit: u32) -> usize
-    requires fact_1 { unit < 65536 }
-    requires fact_2 { 18 ≤ length file.old }
+    requires two_bytes { unit < 65536 }
+    requires room { 18 ≤ length file.old }
     ensures { Put 18 (record_bytes (options_record (scan_contents unit [] []))) 0 file.old file.new result }
 {
     let at_unit = put_head(file, 0, 12, 1);
@@ -68,8 +99,8 @@ fn put_points(file: &mut [u8], at: usize, points: &[f32]) -> usize
     ensures { Put (4 * length points.now) (as_fours (map (to_bits binary32) points.now)) at file.old file.new result }
 {
     let mut next = at;
-    for i in 0usize..points.len() {
-        next = put_four(file, next, bits_of_f32(points[i]));
+    for &x in points {
+        next = put_four(file, next, bits_of_f32(x));
     }
     next
 }
@@ -80,8 +111,8 @@ fn put_faces(file: &mut [u8], at: usize, faces: &[u32]) -> usize
     ensures { Put (4 * length faces.now) (as_fours faces.now) at file.old file.new result }
 {
     let mut next = at;
-    for i in 0usize..faces.len() {
-        next = put_four(file, next, faces[i]);
+    for &number in faces {
+        next = put_four(file, next, number);
     }
     next
 }
@@ -98,15 +129,16 @@ fn put_scan(file: &mut [u8], unit: u32, points: &[f32], faces: &[u32]) -> usize
     put_faces(file, at_faces, faces)
 }
 
-// Writes a mesh and its unit as a file.
-pub fn write_scan(unit: u32, points: &[f32], faces: &[u32], file: &mut [u8]) -> Writing
+// Writes a mesh and its unit as a file, and answers how many bytes it takes, or why nothing was written.
+pub fn write_scan(
+    unit: u32,
+    points: &[f32],
+    faces: &[u32],
+    file: &mut [u8],
+) -> Result<usize, WriteFault>
     ensures { ScanWritten unit points.now faces.now file.old file.new result }
 {
-    match writing_of(unit, points.len(), faces.len(), file.len()) {
-        Writing::Bytes(n) => {
-            put_scan(file, unit, points, faces);
-            Writing::Bytes(n)
-        }
-        Writing::Refused(number, place) => Writing::Refused(number, place),
-    }
+    let size = writing_of(unit, points.len(), faces.len(), file.len())?;
+    put_scan(file, unit, points, faces);
+    Ok(size)
 }

@@ -1,5 +1,4 @@
 -- What one order leaves, and what holds of a call that isn't refused as a whole.
-mod TellLaws
 mod OrderLaws
 pub mod FineLaws
 pub mod ClearLaws

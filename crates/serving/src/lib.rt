@@ -10,42 +10,33 @@ ghost use Rattle.serving.specs.Clauses.{Fits, ThinnedInto, OrderDone};
 
 use meaning::Answer;
 use orders::Order;
-use walk::Closings;
 use walking::Engine;
 
-// An answer to five cells.
-fn tell_five(cells: &mut [u32], r: Answer)
-    requires { length cells.old ≡ 5 }
-    ensures { cells.new ≡ five_of r }
+// An answer to five cells, and the pairs closed to three.
+pub fn tell(five: &mut [u32], three: &mut [u64], r: Answer)
+    requires five { length five.old ≡ 5 }
+    requires three { length three.old ≡ 3 }
+    ensures five { five.new ≡ five_of r }
+    ensures three { three.new ≡ by_reason r }
 {
-    cells[0] = r.number;
-    cells[1] = r.place;
-    cells[2] = r.points;
-    cells[3] = r.faces;
-    cells[4] = r.folds;
-}
-
-// The pairs closed to three cells.
-fn tell_three(cells: &mut [u64], r: Answer)
-    requires { length cells.old ≡ 3 }
-    ensures { cells.new ≡ by_reason r }
-{
-    let by_reason: Closings = r.closed;
-    cells[0] = by_reason.unlinked;
-    cells[1] = by_reason.squashed;
-    cells[2] = by_reason.turned;
+    five.copy_from_slice(&[r.number, r.place, r.points, r.faces, r.folds]);
+    let closed = r.closed;
+    three.copy_from_slice(&[closed.unlinked, closed.squashed, closed.turned]);
 }
 
 // An answer at the place of its order in the two lists.
 fn tell_at(answers: &mut [u32], closed: &mut [u64], place: usize, r: Answer)
-    requires fact_1 { Within (five_at place) answers.old }
-    requires fact_2 { Within (three_at place) closed.old }
+    requires five_fit { Within (five_at place) answers.old }
+    requires three_fit { Within (three_at place) closed.old }
     ensures { (answers.new ≡ replaced (five_at place) (five_of r) answers.old) × (closed.new ≡ replaced (three_at place) (by_reason r) closed.old) }
 {
     let five = 5 * place;
     let three = 3 * place;
-    tell_five(&mut answers[five..five + 5], r);
-    tell_three(&mut closed[three..three + 3], r);
+    tell(
+        &mut answers[five..five + 5],
+        &mut closed[three..three + 3],
+        r,
+    );
 }
 
 // Thins one order on its parts of the inputs, over its own parts of the outputs.

@@ -9,7 +9,7 @@ use lib.Dec.{ltb}
 use lib.ListN.{length, set, length-append}
 use lib.Seq.{sets}
 use borrow.Author.Tests.{lt-ltb, le-ltb}
-use Rattle.text.specs.Digits.{glyph, digits, digit_count, decimal, long_decimal}
+use Rattle.text.specs.Digits.{glyph, digits, digit_count}
 use Rattle.lists.specs.Puts.{Put}
 use Rattle.lists.proofs.PutLaws.{last-first, wider}
 
@@ -58,14 +58,8 @@ next_place (suc k) n some large =
     rw (le-ltb n 10 large, less)
 
 -- as many digits as a number has, stored, are the number in decimal
-counted-stored : (most n : ℕ) {k at r : ℕ} {old new : List ℕ} → k ≡ digit_count most n → Put k (digits 10 k n) at old new r →
-    Put (most + 1) (digits 10 (digit_count most n) n) at old new r
-counted-stored most n counted done = wider (digit-count-most most n) (rw counted at done)
-
-pub decimal-stored : (n : ℕ) {k at r : ℕ} {old new : List ℕ} → k ≡ digit_count 9 n → Put k (digits 10 k n) at old new r → Put 10 (decimal n) at old new r
-unfolding decimal
-decimal-stored n = counted-stored 9 n
-
-pub long-stored : (n : ℕ) {k at r : ℕ} {old new : List ℕ} → k ≡ digit_count 19 n → Put k (digits 10 k n) at old new r → Put 20 (long_decimal n) at old new r
-unfolding long_decimal
-long-stored n = counted-stored 19 n
+pub counted-stored : (most n : ℕ) {k at r : ℕ} {text old new : List ℕ} → (1 ≤ most) × (text ≡ digits 10 (digit_count (most - 1) n) n) →
+    k ≡ digit_count (most - 1) n → Put k (digits 10 k n) at old new r → Put most text at old new r
+counted-stored most n written counted done =
+    let short : digit_count (most - 1) n ≤ most = omega (arith, digit-count-most (most - 1) n) in
+    rw written.1 (wider short (rw counted at done))

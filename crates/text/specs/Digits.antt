@@ -1,5 +1,6 @@
 -- Numbers as text, in ASCII.
-use Rattle.std.specs.Prelude.{ℕ, zero, suc, ◌+◌, ◌/◌, ◌%◌, List, [], ◌∷◌, ◌++◌, cond, ltb}
+use Rattle.std.specs.Prelude.{ℕ, zero, suc, ◌+◌, ◌-◌, ◌/◌, ◌%◌, ◌≤◌, ◌≡◌, refl, List, [], ◌∷◌, ◌++◌, cond, ltb}
+use Rattle.std.proofs.Common.{arith}
 
 -- the code of a digit below 16: 0 to 9, then a to f
 abbrev pub glyph : ℕ → ℕ
@@ -26,3 +27,12 @@ long_decimal n = digits 10 (digit_count 19 n) n
 -- a u32 in hexadecimal, eight digits
 abbrev pub hexadecimal : ℕ → List ℕ
 hexadecimal n = digits 16 8 n
+
+-- both are written of as many digits as they have
+pub decimal_digits : (x n : ℕ) → n ≡ x → (1 ≤ 10) × (decimal x ≡ digits 10 (digit_count (10 - 1) n) n)
+unfolding decimal
+decimal_digits x n same = (omega arith, rw same refl)
+
+pub long_digits : (x n : ℕ) → n ≡ x → (1 ≤ 20) × (long_decimal x ≡ digits 10 (digit_count (20 - 1) n) n)
+unfolding long_decimal
+long_digits x n same = (omega arith, rw same refl)

@@ -1,10 +1,42 @@
 // Text in ASCII, written into a buffer that the caller lends: words, and numbers in decimal and in hexadecimal.
 #![tactic(auto)]
 
-ghost use Rattle.std.specs.Prelude.{◌≡◌, ◌∷◌, [], ◌+◌, ◌-◌, ◌≤◌, ◌<◌, length};
-ghost use Rattle.text.specs.Digits.{glyph as glyph_of, digits, digit_count, decimal, long_decimal, hexadecimal};
-ghost use Rattle.text.specs.Lines.{number_then, long_then, word_line};
+ghost use Rattle.std.specs.Prelude.{ℕ, List, ◌≡◌, ◌∷◌, [], ◌++◌, ◌+◌, ◌-◌, ◌≤◌, ◌<◌, length};
+ghost use Rattle.text.specs.Digits.{glyph as glyph_of, digits, digit_count, decimal, long_decimal, hexadecimal, decimal_digits, long_digits};
+ghost use Rattle.text.specs.Lines.{word_line};
 ghost use Rattle.lists.specs.Puts.{Put};
+
+// A number that can be written in decimal, without leading zeros.
+pub trait Decimal: Into<u64> {
+    // How many digits it has at most, and which they are.
+    ghost MOST: { ℕ };
+
+    ghost decimal: { Self → List ℕ };
+
+    ghost written: { (x : Self) (n : ℕ) → Self.converts x n → (1 ≤ MOST) × (decimal x ≡ digits 10 (digit_count (MOST - 1) n) n) };
+
+    const MOST: usize;
+}
+
+impl Decimal for u32 {
+    ghost MOST = { 10 };
+
+    ghost decimal = { decimal };
+
+    ghost written = { decimal_digits };
+
+    const MOST: usize = 10;
+}
+
+impl Decimal for u64 {
+    ghost MOST = { 20 };
+
+    ghost decimal = { long_decimal };
+
+    ghost written = { long_digits };
+
+    const MOST: usize = 20;
+}
 
 // The code of a digit below 16.
 fn glyph(d: u64) -> u8
@@ -19,29 +51,25 @@ fn digit_count(n: u64, most: usize) -> usize
     requires { 1 ≤ most }
     ensures { result ≡ digit_count (most - 1) n }
 {
-    let mut k = 1;
     let mut rest = n;
-    while k < most {
+    for k in 1..most {
         if rest < 10 {
             return k;
         }
         rest /= 10;
-        k += 1;
     }
-    k
+    most
 }
 
 // Writes the last k digits of a number.
 fn put_digits(out: &mut [u8], at: usize, base: u64, k: usize, n: u64) -> usize
-    requires fact_1 { 1 < base }
-    requires fact_2 { base ≤ 16 }
-    requires fact_3 { at + k ≤ length out.old }
+    requires a_base { 1 < base }
+    requires one_glyph_each { base ≤ 16 }
+    requires room { at + k ≤ length out.old }
     ensures { Put k (digits base k n) at out.old out.new result }
 {
-    let mut i = k;
     let mut rest = n;
-    while 0 < i {
-        i -= 1;
+    for i in (0..k).rev() {
         out[at + i] = glyph(rest % base);
         rest /= base;
     }
@@ -53,12 +81,9 @@ pub fn put_word(out: &mut [u8], at: usize, word: &[u8]) -> usize
     requires { at + length word.now ≤ length out.old }
     ensures { Put (length word.now) word.now at out.old out.new result }
 {
-    let mut i = 0;
-    while i < word.len() {
-        out[at + i] = word[i];
-        i += 1;
-    }
-    at + i
+    let end = at + word.len();
+    out[at..end].copy_from_slice(word);
+    end
 }
 
 // Writes one byte.
@@ -71,21 +96,13 @@ pub fn put_byte(out: &mut [u8], at: usize, b: u8) -> usize
 }
 
 // Writes a number in decimal, without leading zeros.
-pub fn put_decimal(out: &mut [u8], at: usize, n: u32) -> usize
-    requires { at + 10 ≤ length out.old }
-    ensures { Put 10 (decimal n) at out.old out.new result }
+pub fn put_decimal<N: Decimal>(out: &mut [u8], at: usize, n: N) -> usize
+    requires { at + N.MOST ≤ length out.old }
+    ensures { Put N.MOST (N.decimal n) at out.old out.new result }
 {
-    let k = digit_count(n as u64, 10);
-    put_digits(out, at, 10, k, n as u64)
-}
-
-// Writes a long number in decimal, without leading zeros.
-pub fn put_long(out: &mut [u8], at: usize, n: u64) -> usize
-    requires { at + 20 ≤ length out.old }
-    ensures { Put 20 (long_decimal n) at out.old out.new result }
-{
-    let k = digit_count(n, 20);
-    put_digits(out, at, 10, k, n)
+    let value = n.into();
+    let k = digit_count(value, N::MOST);
+    put_digits(out, at, 10, k, value)
 }
 
 // Writes a number in hexadecimal, eight digits.
@@ -97,20 +114,11 @@ pub fn put_hexadecimal(out: &mut [u8], at: usize, n: u32) -> usize
 }
 
 // Writes a number and the byte after it.
-pub fn put_number(out: &mut [u8], at: usize, n: u32, end: u8) -> usize
-    requires { at + 11 ≤ length out.old }
-    ensures { Put 11 (number_then n end) at out.old out.new result }
+pub fn put_number<N: Decimal>(out: &mut [u8], at: usize, n: N, end: u8) -> usize
+    requires { at + (N.MOST + 1) ≤ length out.old }
+    ensures { Put (N.MOST + 1) (N.decimal n ++ end ∷ []) at out.old out.new result }
 {
     let next = put_decimal(out, at, n);
-    put_byte(out, next, end)
-}
-
-// Writes a long number and the byte after it.
-pub fn put_long_number(out: &mut [u8], at: usize, n: u64, end: u8) -> usize
-    requires { at + 21 ≤ length out.old }
-    ensures { Put 21 (long_then n end) at out.old out.new result }
-{
-    let next = put_long(out, at, n);
     put_byte(out, next, end)
 }
 

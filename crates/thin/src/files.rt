@@ -52,11 +52,7 @@ const EINVAL: i32 = 22;
 const ENAMETOOLONG: i32 = 36;
 
 // Room for an argument: the system takes no path that is longer.
-fn name_cells() -> [u8; 4096]
-    ensures { 4096 ≡ length result }
-{
-    [0; 4096]
-}
+const NAME_ROOM: usize = 4096;
 
 // Why there is no argument.
 fn why_none(error: FillError) -> Error {
@@ -75,17 +71,7 @@ fn why_no_name() -> Error {
 fn is_same(word: &[u8], other: &[u8]) -> bool
     ensures { SaysSame result word.now other.now }
 {
-    if word.len() != other.len() {
-        return false;
-    }
-    let mut i = 0;
-    while i < word.len() {
-        if word[i] != other[i] {
-            return false;
-        }
-        i += 1;
-    }
-    true
+    word == other
 }
 
 // Whether an argument is there.
@@ -95,7 +81,7 @@ pub fn has_argument(rt: &impl Env, at: usize) -> bool {
 
 // Whether an argument is there, and is a word.
 pub fn is_argument(rt: &impl Env, at: usize, word: &[u8]) -> bool {
-    let mut argument = name_cells();
+    let mut argument = [0; NAME_ROOM];
     match rt.arg(at, &mut argument) {
         Ok(length) => is_same(&argument[..length], word),
         Err(_) => false,
@@ -104,46 +90,48 @@ pub fn is_argument(rt: &impl Env, at: usize, word: &[u8]) -> bool {
 
 // ---- reading
 
-// What reading came to: so many bytes; or a failure, of which standard error has a line.
-#[derive(Clone, Copy)]
-pub enum Got {
-    Bytes(usize),
-    Failed,
-}
-
-// Reads what a reader of a name gives, to its end or until the buffer is full.
-fn read_all(rt: &(impl Eprint + Alloc), from: &mut impl Read, name: &str, input: &mut [u8]) -> Got
+// Reads what a reader of a name gives, to its end or until the buffer is full, and answers how many bytes. Of a failure standard error has a line.
+fn read_all(
+    rt: &(impl Eprint + Alloc),
+    from: &mut impl Read,
+    name: &str,
+    input: &mut [u8],
+) -> Option<usize>
     ensures { ReadIn result input.old input.new }
 {
     let mut at = 0;
     while at < input.len() {
         match from.read(&mut input[at..]) {
-            Ok(0) => return Got::Bytes(at),
+            Ok(0) => return Some(at),
             Ok(more) => at += more,
             Err(why) => {
                 complain(rt, name, why);
-                return Got::Failed;
+                return None;
             }
         }
     }
-    Got::Bytes(at)
+    Some(at)
 }
 
 // Reads the file of a name.
-fn read_file(rt: &(impl Files + Eprint + Alloc), name: &str, input: &mut [u8]) -> Got
+fn read_file(rt: &(impl Files + Eprint + Alloc), name: &str, input: &mut [u8]) -> Option<usize>
     ensures { ReadIn result input.old input.new }
 {
     match fs::open(rt, name) {
         Ok(mut file) => read_all(rt, &mut file, name, input),
         Err(why) => {
             complain(rt, name, why);
-            Got::Failed
+            None
         }
     }
 }
 
 // Reads the file of a name, or standard input for -.
-fn read_named(rt: &(impl Files + Input + Eprint + Alloc), name: &[u8], input: &mut [u8]) -> Got
+fn read_named(
+    rt: &(impl Files + Input + Eprint + Alloc),
+    name: &[u8],
+    input: &mut [u8],
+) -> Option<usize>
     ensures { ReadIn result input.old input.new }
 {
     if is_same(name, b"-") {
@@ -153,7 +141,7 @@ fn read_named(rt: &(impl Files + Input + Eprint + Alloc), name: &[u8], input: &m
         Ok(name) => read_file(rt, name, input),
         Err(_) => {
             complain(rt, "the name of the file to read", why_no_name());
-            Got::Failed
+            None
         }
     }
 }
@@ -163,33 +151,26 @@ pub fn read_input(
     rt: &(impl Files + Env + Input + Eprint + Alloc),
     at: usize,
     input: &mut [u8],
-) -> Got
+) -> Option<usize>
     ensures { ReadIn result input.old input.new }
 {
-    let mut name = name_cells();
+    let mut name = [0; NAME_ROOM];
     match rt.arg(at, &mut name) {
         Ok(length) => read_named(rt, &name[..length], input),
         Err(FillError::NotPresent) => read_all(rt, &mut rt.reader(), "standard input", input),
         Err(error) => {
             complain(rt, "the name of the file to read", why_none(error));
-            Got::Failed
+            None
         }
     }
 }
 
 // ---- writing: a file beside the one that is asked for, filled, and then given its name
 
-// A new file, and how long its name is. Or there is none, and why.
-#[derive(Drop)]
-enum Made<F> {
-    New(F, usize),
-    Nothing(Error),
-}
-
 // Writes the k-th name for a file beside another.
 fn name_beside(name: &[u8], k: u8, beside: &mut [u8]) -> usize
-    requires fact_1 { k < 100 }
-    requires fact_2 { length name.now + 8 ≤ length beside.old }
+    requires two_digits { k < 100 }
+    requires room { length name.now + 8 ≤ length beside.old }
     ensures { Put (length name.now + 8) (name_beside name.now k) 0 beside.old beside.new result }
 {
     let suffix = text::put_word(beside, 0, name);
@@ -198,8 +179,8 @@ fn name_beside(name: &[u8], k: u8, beside: &mut [u8]) -> usize
     text::put_byte(beside, ones, 48 + k % 10)
 }
 
-// Makes a file beside another, under the first of a hundred names that is free.
-fn make_beside<R: Files>(rt: &R, name: &str, beside: &mut [u8]) -> Made<R::File>
+// Makes a file beside another, under the first of a hundred names that is free. Answers it and how long its name is, or why there is none.
+fn make_beside<R: Files>(rt: &R, name: &str, beside: &mut [u8]) -> io::Result<(R::File, usize)>
     requires { length name.now + 8 ≤ length beside.old }
     ensures { MadeIn result beside.old beside.new }
 {
@@ -211,12 +192,12 @@ fn make_beside<R: Files>(rt: &R, name: &str, beside: &mut [u8]) -> Made<R::File>
             .create_new(true)
             .open(rt, path)
         {
-            Ok(file) => return Made::New(file, length),
+            Ok(file) => return Ok((file, length)),
             Err(why) if why.kind() == ErrorKind::AlreadyExists => {}
-            Err(why) => return Made::Nothing(why),
+            Err(why) => return Err(why),
         }
     }
-    Made::Nothing(Error::from_raw_os_error(EEXIST))
+    Err(Error::from_raw_os_error(EEXIST))
 }
 
 // Writes all bytes into a file, and waits until they have reached its device.
@@ -225,42 +206,38 @@ fn fill(mut file: impl Write + OpenFile + Drop, bytes: &[u8]) -> io::Result<()> 
     file.sync_all()
 }
 
-// Fills a new file with a scan, and gives it its name. Where that fails it is removed, and what had the name stays.
-fn put_in_place<R: Files + Eprint + Alloc>(
+// Fills a new file with a scan, and gives it its name.
+fn put_in_place<R: Files>(
     rt: &R,
     file: R::File,
     beside: &str,
     name: &str,
     bytes: &[u8],
-)
+) -> io::Result<()>
     requires { IsScan bytes.now }
 {
-    if let Err(why) = fill(file, bytes) {
-        complain(rt, name, why);
-        let _ = fs::remove_file(rt, beside);
-        return;
-    }
-    if let Err(why) = fs::rename(rt, beside, name) {
-        complain(rt, name, why);
-        let _ = fs::remove_file(rt, beside);
-    }
+    fill(file, bytes)?;
+    fs::rename(rt, beside, name)
 }
 
-// Saves a scan under a name, whole or not at all.
+// Saves a scan under a name, whole or not at all: where that fails the new file is removed, and what had the name stays.
 fn save(rt: &(impl Files + Eprint + Alloc), name: &str, bytes: &[u8])
     requires { IsScan bytes.now }
 {
-    let mut beside = name_cells();
+    let mut beside = [0; NAME_ROOM];
     if 4088 < name.len() {
         let _ = eprintln!(rt; "thin: the name of the file to write is too long");
         return;
     }
     match make_beside(rt, name, &mut beside) {
-        Made::New(file, length) => {
+        Ok((file, length)) => {
             let path = str::from_utf8(&beside[..length]).unwrap();
-            put_in_place(rt, file, path, name, bytes);
+            if let Err(why) = put_in_place(rt, file, path, name, bytes) {
+                complain(rt, name, why);
+                let _ = fs::remove_file(rt, path);
+            }
         }
-        Made::Nothing(why) => complain(rt, name, why),
+        Err(why) => complain(rt, name, why),
     }
 }
 
@@ -268,7 +245,7 @@ fn save(rt: &(impl Files + Eprint + Alloc), name: &str, bytes: &[u8])
 pub fn save_output(rt: &(impl Files + Env + Eprint + Alloc), bytes: &[u8])
     requires { IsScan bytes.now }
 {
-    let mut name = name_cells();
+    let mut name = [0; NAME_ROOM];
     match rt.arg(2, &mut name) {
         Ok(length) => match str::from_utf8(&name[..length]) {
             Ok(name) => save(rt, name, bytes),

@@ -2,28 +2,21 @@
 // is printed, and told in plain words.
 #![tactic(auto)]
 
-ghost use Rattle.std.specs.Prelude.{◌≡◌, length};
+ghost use Rattle.std.specs.Prelude.{◌≡◌};
 ghost use Rattle.replies.specs.declared.Wanted.TheVariants.{File};
 ghost use Rattle.replies.specs.Clauses.{IsScan};
 
 mod files;
 
-use files::Got;
-use replies::{Reply, Wanted};
+use replies::{INPUT_ROOM, Reply, TEXT_ROOM, Wanted};
 use std::rt::{Env, Files};
 use std::str;
-
-// 134 bytes: no complaint takes more.
-fn complaint_cells() -> [u8; 134]
-    ensures { 134 ≡ length result }
-{
-    [0; 134]
-}
 
 // Prints a refusal's line, and says what it means on standard error.
 fn print_refusal(rt: &(impl Print + Eprint + Alloc), line: &[u8], number: u32, place: u32) {
     files::print(rt, line);
-    let mut words = complaint_cells();
+    // No complaint takes more bytes.
+    let mut words = [0; 134];
     let size = replies::write_complaint(&mut words, number, place);
     let _ = rt.eprint(str::from_utf8(&words[..size]).unwrap());
 }
@@ -49,7 +42,7 @@ fn hand_out(rt: &(impl Files + Env + Print + Eprint + Alloc), wanted: Wanted, by
 
 // Answers a file. A refusal is printed, and saves nothing.
 fn answer(rt: &(impl Files + Env + Print + Eprint + Alloc), wanted: Wanted, bytes: &[u8]) {
-    let mut out = replies::text_cells();
+    let mut out = [0; TEXT_ROOM];
     match replies::write_reply(&mut out, wanted, bytes) {
         Reply::Mesh(n, _) => hand_out(rt, wanted, &out[..n]),
         Reply::Refusal(n, number, place, _) => print_refusal(rt, &out[..n], number, place),
@@ -58,36 +51,23 @@ fn answer(rt: &(impl Files + Env + Print + Eprint + Alloc), wanted: Wanted, byte
 
 // Answers a file, with the line of the pairs closed.
 fn answer_why(rt: &(impl Print + Eprint + Alloc), bytes: &[u8]) {
-    let mut out = replies::text_cells();
+    let mut out = [0; TEXT_ROOM];
     match replies::write_why(&mut out, bytes) {
         Reply::Mesh(n, _) => files::print(rt, &out[..n]),
         Reply::Refusal(n, number, place, _) => print_refusal(rt, &out[..n], number, place),
     }
 }
 
-// Reads the file that the second argument names, and answers it with why.
-fn main_why(rt: &(impl Files + Env + Input + Print + Eprint + Alloc)) {
-    let mut input = replies::input_cells();
-    match files::read_input(rt, 2, &mut input) {
-        Got::Bytes(n) => answer_why(rt, &input[..n]),
-        Got::Failed => {}
-    }
-}
-
-// Reads the file that the first argument names, and answers it as it is asked for.
-fn main_plain(rt: &(impl Files + Env + Input + Print + Eprint + Alloc)) {
-    let mut input = replies::input_cells();
-    match files::read_input(rt, 1, &mut input) {
-        Got::Bytes(n) => answer(rt, wanted(rt), &input[..n]),
-        Got::Failed => {}
-    }
-}
-
-// Whether the first argument asks why decides.
+// Answers the file that the first argument names, as it is asked for; or with why, where the first argument asks that, the file that the second names.
 fn main(rt: HostRuntime) {
-    if files::is_argument(&rt, 1, b"--why") {
-        main_why(&rt);
+    let why = files::is_argument(&rt, 1, b"--why");
+    let mut input = [0; INPUT_ROOM];
+    let Some(n) = files::read_input(&rt, if why { 2 } else { 1 }, &mut input) else {
+        return;
+    };
+    if why {
+        answer_why(&rt, &input[..n]);
     } else {
-        main_plain(&rt);
+        answer(&rt, wanted(&rt), &input[..n]);
     }
 }

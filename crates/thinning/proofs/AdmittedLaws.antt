@@ -12,7 +12,8 @@ use Rattle.lists.proofs.FrameLaws.{but-widen}
 use Rattle.plainwalk.specs.Steps.{Within}
 use Rattle.meaning.specs.declared.Answer.{Answer}
 use Rattle.meaning.specs.declared.Options.{Options}
-use Rattle.meaning.specs.declared.Verdict.TheVariants.{Admitted}
+use Rattle.std.specs.Prelude.{Ok}
+use Rattle.meaning.specs.declared.Task.TheVariants.{Admitted}
 use Rattle.meaning.specs.Input.{Input, points_in, faces_in}
 use Rattle.meaning.specs.Answers.{verdict_of}
 use Rattle.meaning.specs.Outcome.{start_of, target_of, last_mesh, folds_walked, closed_walked, Outcome, folds_by, folds_of}
@@ -125,7 +126,7 @@ module _ (i : Input) {engine : Engine} {points : List Float} {faces : List ℕ} 
     as-came : Leaves (points_in i) (faces_in i) (outcome_in (faces_in i) came w p) (lent points faces u pu qu) (lent points' faces' u' p' q') r
     as-came = leaves-within (outcome_in (faces_in i) came w p) (outcome-worked (faces_in i) came w p) walked.within leaves
 
-    pub thinned-by : verdict_of i ≡ Admitted → ThinnedBy engine i (lent points faces u pu qu) (lent points' faces' u' p' q') folds folds' r
+    pub thinned-by : verdict_of i ≡ Ok Admitted → ThinnedBy engine i (lent points faces u pu qu) (lent points' faces' u' p' q') folds folds' r
     unfolding folds_of folds_by
     thinned-by verdict = record {
       thinned = record { answered = rw (outcome-is i verdict walked) at as-came; folds_listed = walked.folds_listed ∙ rw verdict };

@@ -15,10 +15,10 @@ use Rattle.walk.specs.Faces.{Mesh}
 use Rattle.walk.specs.Output.{used, renumbered, numbers_of}
 use Rattle.memory.specs.Memory.{live_faces}
 use Rattle.memory.specs.Points.{mesh_of, parts_of}
-use Rattle.meaning.specs.declared.Verdict.{Verdict}
-use Rattle.meaning.specs.declared.Verdict.TheVariants.{Admitted}
+use Rattle.std.specs.Prelude.{Ok}
+use Rattle.meaning.specs.declared.Task.TheVariants.{Admitted}
 use Rattle.meaning.specs.Input.{Input, faces_in}
-use Rattle.meaning.specs.Answers.{verdict_of}
+use Rattle.meaning.specs.Answers.{Verdict, verdict_of}
 use Rattle.meaning.specs.Outcome.{rules_in, last_mesh, parts_in, Outcome, outcome_by, outcome}
 use Rattle.walking.specs.declared.Came.{Came}
 use Rattle.walking.specs.declared.Engine.{Engine}
@@ -48,7 +48,7 @@ outcome-worked f came u p = by-test (eqb came.folds 0 && ltb came.target f) (λ 
 
 -- the outcome of the mesh in memory is the input's
 pub outcome-is : (i : Input) {engine : Engine} {u w : List ℕ} {pu qu p q : List Float} {folds folds' : List ℕ} {came : Came} →
-    verdict_of i ≡ Admitted → MeshWalked engine i u pu qu w p q folds folds' came → outcome_in (faces_in i) came w p ≡ outcome i
+    verdict_of i ≡ Ok Admitted → MeshWalked engine i u pu qu w p q folds folds' came → outcome_in (faces_in i) came w p ≡ outcome i
 unfolding mesh_of outcome outcome_by
 outcome-is i {w = w} {p = p} {q = q} verdict walked =
     let same : live_faces (faces_in i) w ≡ (last_mesh i).faces = ap (λ (m : Mesh Vertex). m.faces) walked.mesh_at_end in

@@ -8,10 +8,11 @@ use lib.ListN.{length}
 use lib.Seq.{take-nil}
 use Rattle.walk.specs.declared.Pair.{Pair}
 use Rattle.meaning.specs.declared.Answer.{Answer}
-use Rattle.meaning.specs.declared.Verdict.{Verdict}
-use Rattle.meaning.specs.declared.Verdict.TheVariants.{Refused, Copied}
+use Rattle.std.specs.Prelude.{Ok, Err}
+use Rattle.meaning.specs.declared.Refusal.{Refusal}
+use Rattle.meaning.specs.declared.Task.TheVariants.{Copied}
 use Rattle.meaning.specs.Input.{Input, points_in, faces_in}
-use Rattle.meaning.specs.Answers.{verdict_of}
+use Rattle.meaning.specs.Answers.{number_of, place_of, Verdict, verdict_of}
 use Rattle.meaning.specs.Outcome.{refusal, outcome_by, outcome, folds_by, folds_of, pair_numbers}
 use Rattle.meaning.specs.Call.{Lent, Leaves, listed}
 use Rattle.meaning.proofs.VerdictOrder.{admits}
@@ -37,14 +38,14 @@ by-verdict engine i {folds = folds} e not-walked none leaves = record {
 }
 
 -- refused: nothing is written
-pub refused : (engine : Engine) (i : Input) {n place : ℕ} {before : Lent} {folds : List ℕ} {r : Answer} → Refused n place ≡ verdict_of i → r ≡ refusal n place →
+pub refused : (engine : Engine) (i : Input) {why : Refusal} {before : Lent} {folds : List ℕ} {r : Answer} → Err why ≡ verdict_of i → r ≡ refusal (number_of why) (place_of why) →
     ThinnedBy engine i before before folds folds r
 unfolding outcome_by folds_by
 refused engine i e answer =
     by-verdict engine i e refl refl (record { answered = answer; points_written = refl; faces_written = refl; u32s_left = refl; f32s_left = refl; f64s_left = refl })
 
 -- copied
-pub copied : (engine : Engine) (i : Input) {before after : Lent} {folds : List ℕ} {r : Answer} → Copied ≡ verdict_of i →
+pub copied : (engine : Engine) (i : Input) {before after : Lent} {folds : List ℕ} {r : Answer} → Ok Copied ≡ verdict_of i →
     Leaves (points_in i) (faces_in i) (copy_of (points_in i) (faces_in i) i.points i.faces) before after r → ThinnedBy engine i before after folds folds r
 unfolding outcome_by folds_by
 copied engine i e leaves = by-verdict engine i e refl refl leaves

@@ -1,7 +1,7 @@
 -- What the public entry states: the outcome of the input, and, where the heap is asked for, that a heap walk made it.
-use Rattle.std.specs.Prelude.{◌≡◌, List, ℕ, Float}
+use Rattle.std.specs.Prelude.{◌≡◌, List, ℕ, Float, Ok}
 use Rattle.meaning.specs.declared.Answer.{Answer}
-use Rattle.meaning.specs.declared.Verdict.TheVariants.{Admitted}
+use Rattle.meaning.specs.declared.Task.TheVariants.{Admitted}
 use Rattle.meaning.specs.Input.{Input, points_in, faces_in}
 use Rattle.meaning.specs.Answers.{verdict_of}
 use Rattle.meaning.specs.Call.{Lent, Leaves, Thinned}
@@ -23,4 +23,4 @@ pub record MadeBy (engine : Engine) (i : Input) (before after : Lent) (r : Answe
 -- the whole statement of a call, which is the same for both engines, and how a mesh that is admitted was walked
 pub record ThinnedBy (engine : Engine) (i : Input) (before after : Lent) (folds folds' : List ℕ) (r : Answer) : Type 0 where
   pub thinned : Thinned i before after folds folds' r
-  pub made : verdict_of i ≡ Admitted → MadeBy engine i before after r
+  pub made : verdict_of i ≡ Ok Admitted → MadeBy engine i before after r

@@ -1,10 +1,10 @@
 // The public entry: a mesh thinned in memory that the caller lends, by the heap walk or by the plain walk.
 #![tactic(auto)]
 
-ghost use Rattle.std.specs.Prelude.{◌≡◌, ◌+◌, ◌*◌, ◌/◌, ◌≤◌, length};
+ghost use Rattle.std.specs.Prelude.{◌≡◌, ◌+◌, ◌*◌, ◌/◌, ◌≤◌, length, Ok};
 ghost use Rattle.mesh.specs.Clauses.Chains.{Tidy};
-ghost use Rattle.meaning.specs.declared.Verdict.TheVariants.{Admitted};
-ghost use Rattle.meaning.specs.Answers.{verdict_of};
+ghost use Rattle.meaning.specs.declared.Task.TheVariants.{Admitted};
+ghost use Rattle.meaning.specs.Answers.{number_of, place_of, verdict_of};
 ghost use Rattle.meaning.specs.Outcome as Outcomes;
 ghost use Rattle.meaning.specs.Call.{lent, input_of, Leaves};
 ghost use Rattle.walking.specs.Clauses.{Working};
@@ -12,7 +12,7 @@ ghost use Rattle.thinning.specs.Made.{ThinnedBy};
 ghost use Rattle.thinning.specs.Told.{options_of};
 ghost use Rattle.thinning.specs.Clauses.{Measured, Standing, copy_of, Zeroed, outcome_in, Finished};
 
-use meaning::{Answer, Options, Rooms, Verdict};
+use meaning::{Answer, Options, Refusal, Rooms, Task};
 use walk::Closings;
 use walking::{Came, Engine, walked};
 
@@ -20,12 +20,11 @@ use walking::{Came, Engine, walked};
 pub fn options_of(unit: u32, ratio: f32, preserve: bool, limited: bool, limit: f32) -> Options
     ensures { result ≡ options_of unit ratio preserve limited limit }
 {
-    let most = placement::limit_of(limited, limit);
     Options {
-        unit: unit,
-        ratio: ratio,
-        preserve: preserve,
-        limit: most,
+        unit,
+        ratio,
+        preserve,
+        limit: limited.then_some(limit),
     }
 }
 
@@ -43,11 +42,11 @@ fn without_mesh(number: u32, place: u32, closed: Closings) -> Answer
     }
 }
 
-// A refusal before the walk.
-fn refusal(number: u32, place: u32) -> Answer
-    ensures { result ≡ Outcomes.refusal number place }
+// A refusal before the walk, told by its number and place.
+fn refusal(why: Refusal) -> Answer
+    ensures { result ≡ Outcomes.refusal (number_of why) (place_of why) }
 {
-    without_mesh(number, place, walk::none_closed())
+    without_mesh(why.number(), why.place(), Closings::default())
 }
 
 // 10 where points are fixed, and else 11; and why pairs were closed.
@@ -67,9 +66,9 @@ fn clear(w: &mut [u32], p: &mut [f32], q: &mut [f64], v: usize, f: usize)
     requires { Working v f w.old p.old q.old }
     ensures { Zeroed v f w.old p.old q.old w.new p.new q.new }
 {
-    lists::clear_u32(w, 16 * v + 32 * f);
-    lists::clear_f32(p, 4 * v + 12 * f);
-    lists::clear_f64(q, 16 * v + 6 * f);
+    w[..16 * v + 32 * f].fill(0);
+    p[..4 * v + 12 * f].fill(0.0);
+    q[..16 * v + 6 * f].fill(0.0);
 }
 
 // Ratio zero: the mesh is copied unchanged.
@@ -89,14 +88,13 @@ fn copied(
     let f = faces.len() / 3;
     output::copy_mesh(points, faces, out_points, out_faces);
     clear(w, p, q, v, f);
-    let closed = walk::none_closed();
     Answer {
         number: 0,
         place: 0,
         points: v as u32,
         faces: f as u32,
         folds: 0,
-        closed,
+        closed: Closings::default(),
     }
 }
 
@@ -165,7 +163,7 @@ fn admitted(
     q: &mut [f64],
     folds: &mut [u32],
 ) -> Answer
-    requires { verdict_of (input_of points.now faces.now margin.now options (lent out_points.old out_faces.old w.old p.old q.old)) ≡ Admitted }
+    requires { verdict_of (input_of points.now faces.now margin.now options (lent out_points.old out_faces.old w.old p.old q.old)) ≡ Ok Admitted }
     ensures { ThinnedBy engine (input_of points.now faces.now margin.now options (lent out_points.old out_faces.old w.old p.old q.old)) (lent out_points.old out_faces.old w.old p.old q.old) (lent out_points.new out_faces.new w.new p.new q.new) folds.old folds.new result }
 {
     let came = walked(engine, points, faces, margin, options, w, p, q, folds);
@@ -199,11 +197,11 @@ pub fn thin(
         f64s: work_f64.len(),
     };
     match checks::verdict_of(points, faces, margin, rooms, options) {
-        Verdict::Refused(number, place) => refusal(number, place),
-        Verdict::Copied => copied(
+        Err(why) => refusal(why),
+        Ok(Task::Copied) => copied(
             points, faces, out_points, out_faces, work_u32, work_f32, work_f64,
         ),
-        Verdict::Admitted => admitted(
+        Ok(Task::Admitted) => admitted(
             engine, points, faces, margin, options, out_points, out_faces, work_u32, work_f32,
             work_f64, folds,
         ),

@@ -9,7 +9,9 @@ use lib.Dec.{eqb}
 use Rattle.lists.proofs.TestLaws.{either-of}
 use Rattle.units.specs.declared.Unit.{Unit}
 use Rattle.units.specs.declared.Unit.TheVariants.{Millimetre, Micrometre}
-use Rattle.units.specs.Units.{unit_number, known_unit, unit_of}
+use Rattle.std.specs.Prelude.{not, Result, Ok, Err, is_err}
+use Rattle.units.specs.declared.UnknownUnit.{UnknownUnit}
+use Rattle.units.specs.Units.{unit_number, known_unit, unit_of, ReadsUnit}
 
 -- the unit of a unit's number
 pub unit-of-number : (u : Unit) → unit_of (unit_number u) ≡ u
@@ -32,3 +34,8 @@ number-of-unit n known = ⊎_elim (λ e. rw e refl) (λ e. rw e refl) (one-or-tw
 -- it fits in two bytes
 pub number_short : (n : ℕ) → known_unit n ≡ true → n < 65536
 number_short n known = ⊎_elim (λ e. omega arith) (λ e. omega arith) (one-or-two n known)
+
+-- what is read says whether the number is known
+pub known_read : (n : ℕ) (r : Result Unit UnknownUnit) → ReadsUnit n r → known_unit n ≡ not (is_err r)
+known_read n (Ok unit) reads = reads.0
+known_read n (Err e) reads = reads.0

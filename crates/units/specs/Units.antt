@@ -1,9 +1,10 @@
 -- What a scan is measured in: a unit's number (document 01, "The program and its file") and its bound (document 02, wish 3).
-use Rattle.std.specs.Prelude.{ℕ, ◌≡◌, refl, [], ◌∷◌, map, Bool, true, false, ◌||◌, cond, eqb, Float}
+use Rattle.std.specs.Prelude.{ℕ, ◌≡◌, refl, [], ◌∷◌, map, Bool, true, false, ◌||◌, cond, eqb, Float, Result, MatchResult}
 use Rattle.std.specs.Float.{binary32}
 use Rattle.std.specs.Float.Ieee.{of_bits}
 use Rattle.units.specs.declared.Unit.{Unit}
 use Rattle.units.specs.declared.Unit.TheVariants.{Millimetre, Micrometre}
+use Rattle.units.specs.declared.UnknownUnit.{UnknownUnit}
 
 -- a unit's number
 abbrev pub unit_number : Unit → ℕ
@@ -22,6 +23,10 @@ known_unit n = eqb n (unit_number Millimetre) || eqb n (unit_number Micrometre)
 -- the unit of a number that is one's; any other is refused by 24 before its unit is looked at
 abbrev pub unit_of : ℕ → Unit
 unit_of n = cond (eqb n (unit_number Millimetre)) Millimetre Micrometre
+
+-- what a number is read as: its unit where it is one's, and else an error that has the number
+abbrev pub ReadsUnit : ℕ → Result Unit UnknownUnit → Type 0
+ReadsUnit n r = MatchResult r (λ unit. (known_unit n ≡ true) × (unit ≡ unit_of n)) (λ e. (known_unit n ≡ false) × (e.0 ≡ n))
 
 -- of 0 to 3, of 1 with a higher bit and of the highest number, 1 and 2 are units'
 pub known-hold : map known_unit (0 ∷ 1 ∷ 2 ∷ 3 ∷ 65537 ∷ 4294967295 ∷ []) ≡ false ∷ true ∷ true ∷ false ∷ false ∷ false ∷ []

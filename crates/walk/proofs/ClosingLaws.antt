@@ -10,13 +10,18 @@ use lib.ListN.{length, length-append}
 use Rattle.lists.specs.Lists.{sum, count}
 use Rattle.lists.proofs.SumLaws.{sum-append}
 use Rattle.lists.proofs.EveryLaws.{count_most}
+use Rattle.walk.specs.declared.Closings.{Closings}
 use Rattle.walk.specs.declared.Reason.{Reason}
 use Rattle.walk.specs.declared.Reason.TheVariants.{NotLinked, Squashed, TurnedOver}
 use Rattle.walk.specs.Walk.{State, budget}
-use Rattle.walk.specs.Closings.{is_not_linked, is_squashed, is_turned_over, closings_of}
+use Rattle.walk.specs.Closings.{is_not_linked, is_squashed, is_turned_over, none_closed, closings_of}
 use Rattle.walk.specs.Clauses.{with_reason, RoomToCount}
 use Rattle.walk.specs.Sound.{Sound}
 use Rattle.walk.proofs.StepLaws.{open-bound}
+
+-- where each count is zero, as `Closings::default` answers, none is closed
+pub default-closed : {closed : Closings} → (closed.unlinked ≡ 0) × ((closed.squashed ≡ 0) × (closed.turned ≡ 0)) → closed ≡ none_closed
+default-closed zeros = λ t. record { unlinked = zeros.0 t; squashed = zeros.1.0 t; turned = zeros.1.1 t }
 
 -- one more at the end of a list
 count-last : (test : Reason → Bool) (reasons : List Reason) (reason : Reason) → count test (reasons ++ (reason ∷ [])) ≡ count test reasons + cond (test reason) 1 0

@@ -17,8 +17,7 @@ use Rattle.walk.specs.declared.Face.{Face}
 use Rattle.walk.specs.declared.Pair.{Pair}
 use Rattle.walk.specs.declared.Reason.{Reason}
 use Rattle.walk.specs.declared.Reason.TheVariants.{NotLinked, Squashed, TurnedOver}
-use Rattle.walk.specs.declared.Tested.{Tested}
-use Rattle.walk.specs.declared.Tested.TheVariants.{Allowed, Not}
+use Rattle.std.specs.Prelude.{⊤, Result, Ok, Err}
 use Rattle.walk.specs.Faces.{holds, both, shared, common, renamed, renamed_face, Rules, Mesh, data_of, merged_of}
 use Rattle.walk.specs.Fold.{folded_faces, folded_mesh}
 use Rattle.walk.specs.FoldTest.{linked, asked, harm, or_else, first_harm, moved_of, by_rule, face_test, fold_test}
@@ -56,18 +55,18 @@ face-same k r f h =
 -- ---- what the fold test tells
 
 -- the reason that an answer tells; one that allows tells none, and any stands for it
-abbrev why : Tested → Reason
-why Allowed = NotLinked
-why (Not reason) = reason
+abbrev why : Result ⊤ Reason → Reason
+why (Ok _) = NotLinked
+why (Err reason) = reason
 
 -- of two answers neither of which says no
-pub both-allowed : (t u : Tested) → or_else t u ≡ Allowed → (t ≡ Allowed) × (u ≡ Allowed)
+pub both-allowed : (t u : Result ⊤ Reason) → or_else t u ≡ Ok tt → (t ≡ Ok tt) × (u ≡ Ok tt)
 unfolding or_else
-both-allowed Allowed u e = (refl, e)
-both-allowed (Not reason) u e = let z : ◌≡◌ {A = ℕ} 0 1 = cc in absurd (omega arith)
+both-allowed (Ok _) u e = (refl, e)
+both-allowed (Err reason) u e = let z : ◌≡◌ {A = ℕ} 0 1 = cc in absurd (omega arith)
 
 -- a face that is asked and passes is neither squashed nor turned over
-pub harmless : (number : ℕ) (is squashed turned : Bool) → harm number is squashed turned ≡ Allowed → is ≡ true → (squashed ≡ false) × (turned ≡ false)
+pub harmless : (number : ℕ) (is squashed turned : Bool) → harm number is squashed turned ≡ Ok tt → is ≡ true → (squashed ≡ false) × (turned ≡ false)
 unfolding harm
 harmless number true false false e is = (refl, refl)
 harmless number true true true e is = let z : ◌≡◌ {A = ℕ} 0 1 = cc in absurd (omega arith)
@@ -76,7 +75,7 @@ harmless number true false true e is = let z : ◌≡◌ {A = ℕ} 0 1 = cc in a
 harmless number false squashed turned e is = absurd (clash is refl)
 
 -- and one that doesn't pass is asked, and squashed, or else turned over
-pub harmed-why : (number : ℕ) (is squashed turned : Bool) (reason : Reason) → harm number is squashed turned ≡ Not reason →
+pub harmed-why : (number : ℕ) (is squashed turned : Bool) (reason : Reason) → harm number is squashed turned ≡ Err reason →
     (is ≡ true) × (((squashed ≡ true) × (Squashed number ≡ reason)) ⊎ ((squashed ≡ false) × (turned ≡ true) × (TurnedOver number ≡ reason)))
 unfolding harm
 harmed-why number true true true reason e = (refl, inl (refl, ap why e))
@@ -86,8 +85,8 @@ harmed-why number true false false reason e = let z : ◌≡◌ {A = ℕ} 0 1 = 
 harmed-why number false squashed turned reason e = let z : ◌≡◌ {A = ℕ} 0 1 = cc in absurd (omega arith)
 
 -- where the first that fails is none, every face passes, whatever its number
-all_pass : {P : Face → Type 0} (test : ℕ → Face → Tested) → ((number : ℕ) (f : Face) → test number f ≡ Allowed → P f) →
-    (faces : List Face) (numbers : List ℕ) → first_harm test faces numbers ≡ Allowed → (f : Face) → Memᴰ f faces → P f
+all_pass : {P : Face → Type 0} (test : ℕ → Face → Result ⊤ Reason) → ((number : ℕ) (f : Face) → test number f ≡ Ok tt → P f) →
+    (faces : List Face) (numbers : List ℕ) → first_harm test faces numbers ≡ Ok tt → (f : Face) → Memᴰ f faces → P f
 unfolding first_harm
 all_pass test says [] numbers e f m = absurd (Memᴰ.not-nil m)
 all_pass {P} test says (g ∷ faces) numbers e f m =
@@ -98,18 +97,18 @@ all_pass {P} test says (g ∷ faces) numbers e f m =
     (Memᴰ.append_cases (g ∷ []) m)
 
 -- a fold that isn't allowed: the points are not linked, or they are, and the reason is that of the first face that fails
-pub not-allowed : {D : Type 0} (rules : Rules D) (m : Mesh D) (p : Pair) (reason : Reason) → fold_test rules m p ≡ Not reason →
+pub not-allowed : {D : Type 0} (rules : Rules D) (m : Mesh D) (p : Pair) (reason : Reason) → fold_test rules m p ≡ Err reason →
     ((linked (length m.points) m.faces p.keep p.remove ≡ false) × (NotLinked ≡ reason))
-    ⊎ ((linked (length m.points) m.faces p.keep p.remove ≡ true) × (first_harm (face_test rules m p) m.faces m.numbers ≡ Not reason))
+    ⊎ ((linked (length m.points) m.faces p.keep p.remove ≡ true) × (first_harm (face_test rules m p) m.faces m.numbers ≡ Err reason))
 unfolding fold_test
 not-allowed rules m p reason e =
     by-test (linked (length m.points) m.faces p.keep p.remove)
     (λ t. inr (t, rw t at e))
-    (λ t. let none : Not NotLinked ≡ Not reason = rw t at e in inl (t, ap why none))
+    (λ t. let none : Err NotLinked ≡ Err reason = rw t at e in inl (t, ap why none))
 
-module _ {D : Type 0} (rules : Rules D) (m : Mesh D) (p : Pair) (is-allowed : fold_test rules m p ≡ Allowed) where
+module _ {D : Type 0} (rules : Rules D) (m : Mesh D) (p : Pair) (is-allowed : fold_test rules m p ≡ Ok tt) where
   -- the points are linked, and no face fails
-  two-parts : (linked (length m.points) m.faces p.keep p.remove ≡ true) × (first_harm (face_test rules m p) m.faces m.numbers ≡ Allowed)
+  two-parts : (linked (length m.points) m.faces p.keep p.remove ≡ true) × (first_harm (face_test rules m p) m.faces m.numbers ≡ Ok tt)
   unfolding fold_test
   two-parts =
       by-test (linked (length m.points) m.faces p.keep p.remove)
@@ -165,7 +164,7 @@ module _ {D : Type 0} (rules : Rules D) (m : Mesh D) (p : Pair) (k_r : p.keep �
   by-rule-after rule f = λ t. rule (data_of rules m f.a) (data_of rules m f.b) (data_of rules m f.c) (moved-is f.a t) (moved-is f.b t) (moved-is f.c t)
 
   -- after a fold that is allowed a live face that holds just one of the two is neither squashed nor turned over
-  pub one-fair : fold_test rules m p ≡ Allowed → (f : Face) → Memᴰ f m.faces → (holds p.keep f || holds p.remove f) ≡ true →
+  pub one-fair : fold_test rules m p ≡ Ok tt → (f : Face) → Memᴰ f m.faces → (holds p.keep f || holds p.remove f) ≡ true →
       both p.keep p.remove f ≡ false → (after_by rules.squashed f ≡ false) × (after_by rules.turned f ≡ false)
   one-fair is-allowed f live one not-both =
       let fair = face-fair rules m p is-allowed f live (rw (one, not-both)) in

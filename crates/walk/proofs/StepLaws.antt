@@ -14,8 +14,7 @@ use borrow.Author.Tests.{lt-leb}
 use Rattle.walk.specs.declared.Face.{Face}
 use Rattle.walk.specs.declared.Pair.{Pair}
 use Rattle.walk.specs.declared.Reason.{Reason}
-use Rattle.walk.specs.declared.Tested.{Tested}
-use Rattle.walk.specs.declared.Tested.TheVariants.{Allowed, Not}
+use Rattle.std.specs.Prelude.{⊤, Result, Ok, Err}
 use Rattle.lists.specs.Lists.{sum, count}
 use Rattle.walk.specs.Faces.{both, Rules, Mesh}
 use Rattle.walk.specs.Fold.{folded_faces, folded_mesh}
@@ -74,15 +73,15 @@ weighed {weight} pairs fewer few = omega (arith, mul-le-mul_right weight fewer)
 module _ {D : Type 0} (rules : Rules D) where
   -- of the mesh and the open pairs, an answer tells that its pair is one of these, and what the fold test says of it
   abbrev pub Told : Mesh D → List Pair → StepAnswer → Type 0
-  Told m ps (folded p) = (0 < count (same_pair p) ps) × (fold_test rules m p ≡ Allowed)
-  Told m ps (closed p reason) = (0 < count (same_pair p) ps) × (fold_test rules m p ≡ Not reason)
+  Told m ps (folded p) = (0 < count (same_pair p) ps) × (fold_test rules m p ≡ Ok tt)
+  Told m ps (closed p reason) = (0 < count (same_pair p) ps) × (fold_test rules m p ≡ Err reason)
   Told m ps ended = Unit {0}
 
   -- it is so of a pair tried, of the pair chosen, and so of the answer
-  told-by : (m : Mesh D) (ps : List Pair) (p : Pair) → 0 < count (same_pair p) ps → (t : Tested) → fold_test rules m p ≡ t → Told m ps (told_by p t)
+  told-by : (m : Mesh D) (ps : List Pair) (p : Pair) → 0 < count (same_pair p) ps → (t : Result ⊤ Reason) → fold_test rules m p ≡ t → Told m ps (told_by p t)
   unfolding told_by
-  told-by m ps p one Allowed e = (one, e)
-  told-by m ps p one (Not reason) e = (one, e)
+  told-by m ps p one (Ok _) e = (one, e)
+  told-by m ps p one (Err reason) e = (one, e)
 
   told_tried : (m : Mesh D) (ps : List Pair) (p : Pair) → 0 < count (same_pair p) ps → Told m ps (tried rules m p)
   unfolding tried
@@ -100,12 +99,12 @@ module _ {D : Type 0} (rules : Rules D) where
 
   -- said of a folded pair, and of a closed one
   pub answer-folded :
-      (target : ℕ) (s : State D) (p : Pair) → answer rules target s ≡ folded p → is_open_pair s p × (fold_test rules s.mesh p ≡ Allowed)
+      (target : ℕ) (s : State D) (p : Pair) → answer rules target s ≡ folded p → is_open_pair s p × (fold_test rules s.mesh p ≡ Ok tt)
   answer-folded target s p e = subst (Told s.mesh s.«open») e (answer-told target s)
 
   pub answer-closed :
       (target : ℕ) (s : State D) (p : Pair) (reason : Reason) → answer rules target s ≡ closed p reason
-      → is_open_pair s p × (fold_test rules s.mesh p ≡ Not reason)
+      → is_open_pair s p × (fold_test rules s.mesh p ≡ Err reason)
   answer-closed target s p reason e = subst (Told s.mesh s.«open») e (answer-told target s)
 
   -- ---- sound after a step
@@ -155,10 +154,10 @@ module _ {D : Type 0} (rules : Rules D) where
 -- ---- the end
 
 -- a pair that is tried is no end, so no pair was to choose
-never-tried : (x : Pair) (t : Tested) → told_by x t ≡ ended → ⊥
+never-tried : (x : Pair) (t : Result ⊤ Reason) → told_by x t ≡ ended → ⊥
 unfolding told_by
-never-tried x Allowed e = let z : ◌≡◌ {A = ℕ} 0 1 = cc in omega arith
-never-tried x (Not reason) e = let z : ◌≡◌ {A = ℕ} 0 1 = cc in omega arith
+never-tried x (Ok _) e = let z : ◌≡◌ {A = ℕ} 0 1 = cc in omega arith
+never-tried x (Err reason) e = let z : ◌≡◌ {A = ℕ} 0 1 = cc in omega arith
 
 none-chosen : {D : Type 0} (rules : Rules D) (m : Mesh D) (ps : List Pair) → chosen rules m ps ≡ ended → ps ≡ []
 unfolding chosen tried

@@ -1,11 +1,10 @@
 -- What the fold test says of a pair: allowed, or why not (document 01, "A fold is allowed if"; document 02, wish 4).
-use Rattle.std.specs.Prelude.{ℕ, List, [], ◌∷◌, Bool, not, ◌&&◌, ◌||◌, leb, eqb, length, get_or, drop}
+use Rattle.std.specs.Prelude.{ℕ, List, [], ◌∷◌, Bool, not, ◌&&◌, ◌||◌, leb, eqb, length, get_or, drop, ⊤, Result, Ok, Err}
 use Rattle.std.proofs.Math.Bool.{cond}
 use Rattle.walk.specs.declared.Face.{Face}
 use Rattle.walk.specs.declared.Pair.{Pair}
+use Rattle.walk.specs.declared.Reason.{Reason}
 use Rattle.walk.specs.declared.Reason.TheVariants.{NotLinked, Squashed, TurnedOver}
-use Rattle.walk.specs.declared.Tested.{Tested}
-use Rattle.walk.specs.declared.Tested.TheVariants.{Allowed, Not}
 use Rattle.walk.specs.Faces.{holds, both, shared, common, Rules, Mesh, data_of, merged_of}
 
 -- the faces that hold both number at least 1, and the common neighbours number the same
@@ -17,18 +16,18 @@ abbrev pub asked : ℕ → ℕ → Face → Bool
 asked keep remove f = (holds keep f || holds remove f) && not (both keep remove f)
 
 -- what is told of the face of a number, by whether it is asked, squashed and turned over: squashed comes before turned over
-unfoldable pub harm : ℕ → (is_asked squashed turned : Bool) → Tested
-harm number is_asked squashed turned = cond is_asked (cond squashed (Not (Squashed number)) (cond turned (Not (TurnedOver number)) Allowed)) Allowed
+unfoldable pub harm : ℕ → (is_asked squashed turned : Bool) → Result ⊤ Reason
+harm number is_asked squashed turned = cond is_asked (cond squashed (Err (Squashed number)) (cond turned (Err (TurnedOver number)) (Ok tt))) (Ok tt)
 
 -- the first of two answers that isn't allowed
-unfoldable pub or_else : Tested → Tested → Tested
-or_else Allowed later = later
-or_else (Not reason) later = Not reason
+unfoldable pub or_else : Result ⊤ Reason → Result ⊤ Reason → Result ⊤ Reason
+or_else (Ok _) later = later
+or_else (Err reason) later = Err reason
 
 -- of faces in order, with their numbers beside them: what a test says of the first that it doesn't allow
-unfoldable pub first_harm : (ℕ → Face → Tested) → List Face → List ℕ → Tested
+unfoldable pub first_harm : (ℕ → Face → Result ⊤ Reason) → List Face → List ℕ → Result ⊤ Reason
 unfolding or_else
-first_harm test [] numbers = Allowed
+first_harm test [] numbers = Ok tt
 first_harm test (f ∷ fs) numbers = or_else (test (get_or numbers 0 0) f) (first_harm test fs (drop 1 numbers))
 
 module _ {D : Type 0} (rules : Rules D) where
@@ -44,14 +43,14 @@ module _ {D : Type 0} (rules : Rules D) where
       (moved_of m p f.a) (moved_of m p f.b) (moved_of m p f.c)
 
   -- what the fold does to the face of a number
-  unfoldable pub face_test : Mesh D → Pair → ℕ → Face → Tested
+  unfoldable pub face_test : Mesh D → Pair → ℕ → Face → Result ⊤ Reason
   unfolding harm
   face_test m p number f = harm number (asked p.keep p.remove f) (by_rule rules.squashed m p f) (by_rule rules.turned m p f)
 
   -- the fold test: whether the points are linked, and then the faces, lowest number first
-  unfoldable pub fold_test : Mesh D → Pair → Tested
+  unfoldable pub fold_test : Mesh D → Pair → Result ⊤ Reason
   unfolding face_test first_harm
   fold_test m p =
       cond (linked (length m.points) m.faces p.keep p.remove)
       (first_harm (face_test m p) m.faces m.numbers)
-      (Not NotLinked)
+      (Err NotLinked)

@@ -1,12 +1,10 @@
 -- The plain walk: the meaning of thinning (document 01, "Pairs, folds, ends"). No heap, no stamps, every cost worked out anew.
-use Rattle.std.specs.Prelude.{ℕ, zero, suc, ◌+◌, ◌*◌, ◌≡◌, ◌&&◌, leb, length}
+use Rattle.std.specs.Prelude.{ℕ, zero, suc, ◌+◌, ◌*◌, ◌≡◌, ◌&&◌, leb, length, ⊤, Result, Ok, Err}
 use mathlib.Core.List.{List, [], ◌∷◌, ◌++◌}
 use Rattle.std.proofs.Math.Bool.{cond}
 use Rattle.lists.specs.Lists.{those, without, SameBag}
 use Rattle.walk.specs.declared.Pair.{Pair}
 use Rattle.walk.specs.declared.Reason.{Reason}
-use Rattle.walk.specs.declared.Tested.{Tested}
-use Rattle.walk.specs.declared.Tested.TheVariants.{Allowed, Not}
 use Rattle.walk.specs.Faces.{Rules, Mesh}
 use Rattle.walk.specs.Pairs.{same_pair, apart, pairs_below, rises, eligible_pair, least, opened}
 use Rattle.walk.specs.FoldTest.{fold_test}
@@ -75,9 +73,9 @@ unfoldable pub budget : {D : Type 0} → ℕ → State D → ℕ
 budget faces s = length s.mesh.faces * (3 * faces + 1) + length s.«open»
 
 -- a pair by what the fold test says of it
-unfoldable pub told_by : Pair → Tested → StepAnswer
-told_by p Allowed = folded p
-told_by p (Not reason) = closed p reason
+unfoldable pub told_by : Pair → Result ⊤ Reason → StepAnswer
+told_by p (Ok _) = folded p
+told_by p (Err reason) = closed p reason
 
 module _ {D : Type 0} (rules : Rules D) where
   -- at the start each face edge that runs from a lower to a higher number opens that pair

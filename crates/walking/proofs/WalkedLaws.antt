@@ -7,6 +7,7 @@ use mathlib.Core.List.{List}
 use mathlib.Core.Bool.{Bool}
 use lib.Ieee.{Float}
 use lib.ListN.{length}
+use Rattle.std.specs.Prelude.{Option}
 use Rattle.walk.specs.declared.Pair.{Pair}
 use Rattle.walk.specs.Faces.{faces_of}
 use Rattle.memory.specs.Entries.{folds_in}
@@ -17,7 +18,6 @@ use Rattle.plainwalk.proofs.Theorems.{plain-walk-fewer}
 use Rattle.meaning.specs.Input.{Input, points_in, faces_in, bound_in}
 use Rattle.meaning.specs.Outcome.{start_of, target_of, last_mesh, folds_walked, closed_walked}
 use Rattle.meaning.specs.Call.{listed}
-use Rattle.placement.specs.declared.Limit.{Limit}
 use Rattle.heapwalk.specs.Chain.{HeapWalked}
 use Rattle.heapwalk.proofs.Theorems.{heap-walk-is-the-plain-walk}
 use Rattle.walking.specs.declared.Engine.{Engine}
@@ -41,7 +41,7 @@ pub plain-room : {v f : ℕ} {w : List ℕ} {p q : List Float} → Walkable v f 
 plain-room asked = (omega arith, omega arith)
 
 -- the plain walk says that it is walked, and the heap walk its chain
-module _ {engine : Engine} {v f target : ℕ} {limit : Limit} {bound : Float} {w w' : List ℕ} {p q p' q' : List Float} {r : Walked} where
+module _ {engine : Engine} {v f target : ℕ} {limit : Option Float} {bound : Float} {w w' : List ℕ} {p q p' q' : List Float} {r : Walked} where
   pub by-plain : engine ≡ Plain → WalkDone v f w p q target limit bound w' p' q' r → WalkedBy engine v f target limit bound w p q w' p' q' r
   by-plain told walked = record { done = walked; chained = λ heap. let z : ◌≡◌ {A = ℕ} 0 1 = cc (sym told ∙ heap) in absurd (omega arith) }
 

@@ -1,5 +1,5 @@
 -- What laying a mesh out and walking it ask and leave.
-use Rattle.std.specs.Prelude.{ℕ, ◌*◌, ◌≤◌, ◌≡◌, List, Bool, true, length, Float}
+use Rattle.std.specs.Prelude.{ℕ, ◌*◌, ◌≤◌, ◌≡◌, List, Bool, true, length, Float, Option}
 use Rattle.lists.specs.Lists.{every}
 use Rattle.walk.specs.Faces.{proper, faces_of}
 use Rattle.memory.specs.Layout.{costs_to, places_to, f32s_needed, f64s_needed}
@@ -17,7 +17,6 @@ use Rattle.plainwalk.specs.declared.Walked.{Walked}
 use Rattle.plainwalk.specs.Whole.{WalkDone}
 use Rattle.heapwalk.specs.Chain.{HeapWalked}
 use Rattle.placement.specs.declared.Bounds.{Bounds}
-use Rattle.placement.specs.declared.Limit.{Limit}
 use Rattle.units.specs.Units.{unit_bound, unit_of}
 use Rattle.walking.specs.declared.Came.{Came}
 use Rattle.walking.specs.declared.Engine.{Engine}
@@ -69,7 +68,7 @@ abbrev pub bounds_of : Options → Bounds
 bounds_of options = record { limit = options.limit; size = unit_bound (unit_of options.unit) }
 
 -- What the walk by an engine has done: by either what the plain walk comes to, and by the heap as a chain of steps on the queue.
-pub record WalkedBy (engine : Engine) (v f target : ℕ) (limit : Limit) (bound : Float) (w : List ℕ) (p q : List Float) (w' : List ℕ) (p' q' : List Float) (r : Walked) : Type 0 where
+pub record WalkedBy (engine : Engine) (v f target : ℕ) (limit : Option Float) (bound : Float) (w : List ℕ) (p q : List Float) (w' : List ℕ) (p' q' : List Float) (r : Walked) : Type 0 where
   pub done : WalkDone v f w p q target limit bound w' p' q' r
   pub chained : engine ≡ Heap → HeapWalked v f target limit bound w p q w' p' q' r
 

@@ -1,7 +1,7 @@
 // A mesh laid out in the work memory and walked by either engine, with its folds listed.
 #![tactic(auto)]
 
-ghost use Rattle.std.specs.Prelude.{◌≡◌, ◌+◌, ◌*◌, ◌/◌, ◌≤◌, min, length, true};
+ghost use Rattle.std.specs.Prelude.{◌≡◌, ◌+◌, ◌*◌, ◌/◌, ◌≤◌, length, true};
 ghost use Rattle.memory.specs.Memory.{Room};
 ghost use Rattle.memory.specs.Entries.{folds_in};
 ghost use Rattle.units.specs.Units.{known_unit};
@@ -11,7 +11,7 @@ ghost use Rattle.walking.specs.Clauses.{Layable, Walkable, LaidOut, bounds_of, W
 use meaning::Options;
 use placement::Bounds;
 use plainwalk::Walked;
-use units::{unit_bound, unit_of};
+use units::Unit;
 use walk::Closings;
 
 // How the mesh is walked: by every cost worked out anew, or by a queue.
@@ -60,7 +60,7 @@ fn bounds_of(options: Options) -> Bounds
     let limit = options.limit;
     Bounds {
         limit,
-        size: unit_bound(unit_of(options.unit)),
+        size: Unit::try_from(options.unit).unwrap().bound(),
     }
 }
 
@@ -84,13 +84,6 @@ fn walk_by(
     }
 }
 
-// The lesser of two numbers.
-fn lesser(a: usize, b: usize) -> usize
-    ensures { result ≡ min a b }
-{
-    if a < b { a } else { b }
-}
-
 // Lists the folds that a walk has written down, as far as there is room.
 fn list_folds(w: &[u32], v: usize, f: usize, made: usize, folds: &mut [u32])
     requires fact_1 { Room v f w.now }
@@ -98,10 +91,8 @@ fn list_folds(w: &[u32], v: usize, f: usize, made: usize, folds: &mut [u32])
     ensures { folds.new ≡ listed (folds_in v f w.now made) folds.old }
 {
     let from = memory::folds_from(v, f);
-    let n = lesser(2 * made, folds.len());
-    for i in 0..n {
-        folds[i] = w[from + i];
-    }
+    let n = folds.len().min(2 * made);
+    folds[..n].copy_from_slice(&w[from..from + n]);
 }
 
 // Lays a mesh out, walks it and lists its folds.
@@ -129,8 +120,8 @@ pub fn walked(
     list_folds(w, v, f, walked.folds, folds);
     let closed = walked.closed;
     Came {
-        target: target,
-        fixed: fixed,
+        target,
+        fixed,
         folds: walked.folds,
         closed,
     }

@@ -1,3 +1,2 @@
 -- Laws of the words, with no code in sight.
-pub mod CellLaws
 pub mod MeaningLaws

@@ -1,17 +1,20 @@
 -- The table's rows, and a place after its word.
 -- Assumes nothing.
-use Prim.Native.Nat.{ℕ, ◌+◌}
+use Prim.Native.Nat.{ℕ, ◌+◌, ◌≤◌}
 use native.Mathlib.Omega.{arith}
 use mathlib.Core.Path.{◌≡◌, refl}
+use mathlib.Core.Bool.{true, false}
+use Rattle.std.specs.Bool.{◌==◌}
 use mathlib.Core.List.{List, [], ◌∷◌}
-use borrow.Author.Tests.{ne_eqb}
+use borrow.Author.Tests.{ne_eqb, eqb-true}
 use Rattle.lists.specs.Puts.{Put}
-use Rattle.lists.proofs.PutLaws.{wider, both}
+use Rattle.lists.proofs.PutLaws.{none, wider, both}
 use Rattle.text.specs.Words.{ascii}
 use Rattle.text.specs.Lines.{number_then}
 use Rattle.wording.specs.Meanings.{Row, meanings, row_of, placed}
-use Rattle.wording.specs.declared.Cells.{Cells}
-use Rattle.wording.specs.Cells.{before_bar, Means}
+use Rattle.wording.specs.declared.Words.{Words}
+use Rattle.wording.specs.Means.{Means}
+use lib.ListN.{length}
 
 -- ---- the table
 
@@ -37,22 +40,24 @@ no_row number known (row ∷ rows) none =
 pub known-row : {number known : ℕ} → number ≡ known → row_of number meanings ≡ row_of known meanings
 known-row same = rw same
 
--- cells that have a row's words
-pub by_row : {number : ℕ} {row : Row} {r : Cells} → row_of number meanings ≡ row → before_bar r.0 ≡ ascii row.1 → before_bar r.1 ≡ ascii row.2 →
-    Means number r
-by_row found words place = record { words = rw found words; place = rw found place }
+-- words that are a row's
+pub by_row : {number : ℕ} {row : Row} {r : Words} → row_of number meanings ≡ row → r.0.now ≡ ascii row.1 → r.1.now ≡ ascii row.2 →
+    length (ascii row.1) + length (ascii row.2) ≤ 70 → Means number r
+by_row found words place short = record { words = rw found words; place = rw found place; short = rw found short }
 
 -- ---- a place after its word
 
 -- no word, and so no place
-pub no_place : {most at r : ℕ} {word old new : List ℕ} (place : ℕ) → Put most word at old new r → r ≡ at → Put (most + 11) (placed word place) at old new at
+pub no_place : (word old : List ℕ) (at place : ℕ) → (length word == 0) ≡ true → Put (length word + 11) (placed word place) at old old at
 unfolding placed
-no_place {word = []} place done none = wider (omega arith) (rw none at done)
-no_place {word = b ∷ rest} place done none = absurd (omega arith)
+no_place [] old at place empty = wider (omega arith) (none old at)
+no_place (b ∷ rest) old at place empty =
+    let same : length (b ∷ rest) ≡ 0 = eqb-true _ _ empty in
+    absurd (omega arith)
 
 -- a word, and the place after it
-pub place-put : {most at p r : ℕ} {word old mid new : List ℕ} (place : ℕ) → Put most word at old mid p → (p ≡ at → ⊥) →
-    Put 11 (number_then place 41) p mid new r → Put (most + 11) (placed word place) at old new r
+pub place-put : {at p r : ℕ} (word : List ℕ) {old mid new : List ℕ} (place : ℕ) → (length word == 0) ≡ false → Put (length word) word at old mid p →
+    Put 11 (number_then place 41) p mid new r → Put (length word + 11) (placed word place) at old new r
 unfolding placed
-place-put {word = []} place done some number = absurd (some (omega arith))
-place-put {word = b ∷ rest} place done some number = both done number
+place-put [] place empty done number = cc
+place-put (b ∷ rest) place empty done number = both done number

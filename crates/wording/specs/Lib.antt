@@ -1,4 +1,4 @@
 -- What an answer's number means, in plain words.
 pub mod Meanings
-pub mod Cells
+pub mod Means
 pub mod Examples

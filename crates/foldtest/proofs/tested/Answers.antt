@@ -10,14 +10,14 @@ pub tested_faces-requires : goal.tested_faces-requires
 tested_faces-requires c =
     rw c.is_linked.ensures.w_unchanged (record { fact_1 = c.requires.fact_1; fact_2 = c.requires.fact_2; fact_3 = c.requires.fact_3; fact_4 = c.requires.fact_4 })
 
-pub returns-then-is_linked : goal.returns-then-is_linked
-returns-then-is_linked c =
+pub returns : goal.returns
+returns c =
     record {
-      value = tested-by-faces c.args.v c.args.f c.args.w.now c.args.p.now c.args.fold.keep c.args.fold.remove c.args.fold.place c.is_linked.ensures.value c.if-is_linked.true
+      value = tested-by-faces c.args.v c.args.f c.args.w.now c.args.p.now c.args.fold.keep c.args.fold.remove c.args.fold.place c.is_linked.ensures.value c.if-not-is_linked.false
           c.is_linked.ensures.w_unchanged c.tested_faces.ensures;
       w_unchanged = c.is_linked.ensures.w_unchanged;
     }
 
-pub returns : goal.returns
-returns c =
-    record { value = tested-unlinked c.args.v c.args.f c.args.w.now c.args.p.now c.args.fold.keep c.args.fold.remove c.args.fold.place c.is_linked.ensures.value c.if-is_linked.false; w_unchanged = c.is_linked.ensures.w_unchanged }
+pub returns-then-not-is_linked : goal.returns-then-not-is_linked
+returns-then-not-is_linked c =
+    record { value = tested-unlinked c.args.v c.args.f c.args.w.now c.args.p.now c.args.fold.keep c.args.fold.remove c.args.fold.place c.is_linked.ensures.value c.if-not-is_linked.true; w_unchanged = c.is_linked.ensures.w_unchanged }

@@ -1,10 +1,10 @@
 -- What a fold does to one face (document 01, "A fold is allowed if").
-use Rattle.std.specs.Prelude.{ℕ, ◌+◌, ◌*◌, ◌<◌, List, Bool, not, ◌&&◌, ◌||◌, cond, eqb, length, Float}
+use Rattle.std.specs.Prelude.{ℕ, ◌+◌, ◌*◌, ◌<◌, List, Bool, not, ◌&&◌, ◌||◌, cond, eqb, length, Float, ⊤, Result}
 use Rattle.std.specs.Float.{binary32}
 use Rattle.std.specs.Float.Ieee.{mul, lt}
 use Rattle.geometry.specs.declared.Point.{Point}
+use Rattle.walk.specs.declared.Reason.{Reason}
 use Rattle.walk.specs.declared.Face.{Face}
-use Rattle.walk.specs.declared.Tested.{Tested}
 use Rattle.walk.specs.Faces.{holds}
 use Rattle.walk.specs.FoldTest.{asked, harm}
 use Rattle.meaning.specs.Input.{point_at}
@@ -47,7 +47,7 @@ abbrev pub harmed : List Float → ℕ → ℕ → Point → ℕ → Face → Bo
 harmed p keep remove place other face = not (holds other face) && (squashed_at p keep remove place face || turned_at p keep remove place face)
 
 -- what is told of the face of a number: of one that holds just one of the two whether it is squashed or turned over; no other face is asked
-unfoldable pub harm_at : List Float → ℕ → ℕ → Point → ℕ → Face → Tested
+unfoldable pub harm_at : List Float → ℕ → ℕ → Point → ℕ → Face → Result ⊤ Reason
 unfolding harm
 harm_at p keep remove place number face =
     harm number (asked keep remove face) (squashed_at p keep remove place face) (turned_at p keep remove place face)

@@ -6,4 +6,4 @@ pub returns-then-thin : goal.returns-then-thin
 returns-then-thin c = rw c.if-thin.true refl
 
 pub returns : goal.returns
-returns c = rw c.if-thin.false c.more_than.ensures
+returns c = rw c.if-thin.false c.saturating_sub.ensures

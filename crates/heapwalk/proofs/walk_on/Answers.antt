@@ -3,6 +3,7 @@
 -- budget. Assumes nothing.
 use native.Mathlib.Omega.{arith}
 use mathlib.Core.Path.{◌∙◌}
+use Rattle.walk.proofs.ClosingLaws.{default-closed}
 use Rattle.plainwalk.proofs.LentLaws.{folds_few, room-folded, less-folded, less-closed}
 use Rattle.heapwalk.proofs.HoldLaws.{heap-step}
 use Rattle.heapwalk.proofs.ChainLaws.{chaining-start, chaining-folded, chaining-room, chaining-closed, chaining-end}
@@ -10,7 +11,7 @@ use Rattle.heapwalk.proofs.walk_on.Goals as goal
 
 pub loop-pair-init : goal.loop-pair-init
 loop-pair-init c =
-    rw c.none_closed-closed.ensures
+    rw (default-closed {closed = c.default-closed.result} c.default-closed.ensures)
     (chaining-start c.args.v c.args.f c.args.target c.args.bounds.limit c.args.bounds.size _ c.requires)
 
 pub heap_step-paced-requires : goal.heap_step-paced-requires
@@ -35,8 +36,8 @@ loop-pair-preserved-in-Folded c =
     rw c.note_fold.ensures
     (chaining-folded c.loop-pair.invariant c.heap_step-paced.ensures c.in-Folded.is)
 
-pub counted-closed-requires : goal.counted-closed-requires
-counted-closed-requires c =
+pub with-closed-requires : goal.with-closed-requires
+with-closed-requires c =
     chaining-room c.loop-pair.invariant c.heap_step-paced.ensures c.in-Closed.is
 
 pub loop-pair-smaller : goal.loop-pair-smaller
@@ -46,7 +47,7 @@ loop-pair-smaller c =
 pub loop-pair-preserved : goal.loop-pair-preserved
 loop-pair-preserved c =
     chaining-closed c.loop-pair.invariant c.heap_step-paced.ensures c.in-Closed.is
-    c.counted-closed.ensures
+    c.with-closed.ensures
 
 pub shape_of-w-in-Ended : goal.shape_of-w-in-Ended
 shape_of-w-in-Ended c = c.heap_step-paced.ensures.tied.within.but.same_length ∙ c.loop-pair.invariant.walking.going.within.but.same_length

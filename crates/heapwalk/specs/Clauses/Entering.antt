@@ -1,6 +1,5 @@
 -- Pairs are opened into the queue: what that asks, and what it leaves.
-use Rattle.std.specs.Prelude.{ℕ, ◌*◌, ◌<◌, ◌≡◌, List, map, Float}
-use Rattle.placement.specs.declared.Limit.{Limit}
+use Rattle.std.specs.Prelude.{ℕ, ◌*◌, ◌<◌, ◌≡◌, List, map, Float, Option}
 use Rattle.walk.specs.declared.Pair.{Pair}
 use Rattle.lists.specs.Lists.{sum, SameBag}
 use Rattle.lists.specs.Frames.{But, FloatsBut}
@@ -22,18 +21,18 @@ pub record Open (v f : ℕ) (w : List ℕ) (p q : List Float) (n : ℕ) (bound :
   pub kept : Kept v f w p q n bound
 
 -- the entries that the pairs of a list get in the mesh in memory, with the present stamps
-abbrev pub entries_for : (v f : ℕ) (w : List ℕ) (p q : List Float) (limit : Limit) (bound : Float) → List Pair → List Entry
+abbrev pub entries_for : (v f : ℕ) (w : List ℕ) (p q : List Float) (limit : Option Float) (bound : Float) → List Pair → List Entry
 entries_for v f w p q limit bound = map (entry_for limit bound (mesh_of v f w p q) (stamps_of v f w))
 
 -- entries for a list of pairs are put in, and the memory holds a mesh and a queue as before
-pub record Entered (v f : ℕ) (w : List ℕ) (p q : List Float) (n : ℕ) (limit : Limit) (bound : Float) (more : List Pair)
+pub record Entered (v f : ℕ) (w : List ℕ) (p q : List Float) (n : ℕ) (limit : Option Float) (bound : Float) (more : List Pair)
     (w' : List ℕ) (p' q' : List Float) (n' : ℕ) : Type 0 where
   pub enqueued : Enqueued v f w p q n more w' p' q' n'
   pub requeued : Requeued (stamps_of v f w) (entries_in v f w p q n) (entries_for v f w p q limit bound more) (entries_in v f w' p' q' n')
   pub «open» : Open v f w' p' q' n' bound
 
 -- the queue at the start: it holds an entry for each pair of a list and no other, and no stamp has grown
-pub record Started (v f : ℕ) (w : List ℕ) (p q : List Float) (limit : Limit) (bound : Float) (more : List Pair) (w' : List ℕ) (p' q' : List Float) (n' : ℕ) : Type 0 where
+pub record Started (v f : ℕ) (w : List ℕ) (p q : List Float) (limit : Option Float) (bound : Float) (more : List Pair) (w' : List ℕ) (p' q' : List Float) (n' : ℕ) : Type 0 where
   pub but : But (stamps_from v f) (folds_from v f) w w'
   pub points_but : FloatsBut (3 * v) (places_to v f) p p'
   pub quadrics_but : FloatsBut (10 * v) (costs_to v f) q q'

@@ -1,11 +1,11 @@
 -- The quadrics of listed points are read a part of eight at a time: what that asks, and what it leaves.
-use Rattle.std.specs.Prelude.{ℕ, ◌+◌, ◌/◌, ◌%◌, ◌≤◌, ◌<◌, ◌≡◌, ◌≢◌, List, cond, ltb, length, get_or, Float}
+use Rattle.std.specs.Prelude.{ℕ, ◌+◌, ◌/◌, ◌%◌, ◌≤◌, ◌<◌, ◌≡◌, ◌≢◌, List, min, length, get_or, Float}
 use Rattle.memory.specs.Points.{quadric_at}
 use Rattle.memory.specs.Layout.{around_from}
 
 -- how many of those that are left are read next
 abbrev pub part_of : ℕ → ℕ
-part_of left = cond (ltb left 8) left 8
+part_of left = min left 8
 
 -- the first ones of the list are points
 abbrev pub PointsListed : (v f : ℕ) (w : List ℕ) (count : ℕ) → Type 0

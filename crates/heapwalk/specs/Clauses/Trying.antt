@@ -1,7 +1,6 @@
 -- What trying the pair of an entry that was taken off asks, and what it leaves; and what is answered at the end.
-use Rattle.std.specs.Prelude.{ℕ, ◌≡◌, List, ◌∷◌, Float}
+use Rattle.std.specs.Prelude.{ℕ, ◌≡◌, List, ◌∷◌, Float, Option}
 use Rattle.geometry.specs.declared.Point.{Point}
-use Rattle.placement.specs.declared.Limit.{Limit}
 use Rattle.placement.specs.declared.pair.Vertex.{Vertex}
 use Rattle.placement.specs.Pairs.{pair_place}
 use Rattle.walk.specs.declared.Pair.{Pair}
@@ -27,7 +26,7 @@ pub record PairHolds (v f : ℕ) (w : List ℕ) (p q : List Float) (n live : ℕ
 
 -- A pair that is off the queue is folded or closed: the answer is tied to the plain walk's, old entries may be thrown out, the others stay, and new ones are
 -- put in.
-pub record PairAnswer (v f : ℕ) (w : List ℕ) (p q : List Float) (n keep remove : ℕ) (limit : Limit) (bound : Float) (a : StepAnswer) (w' : List ℕ) (p' q' : List Float)
+pub record PairAnswer (v f : ℕ) (w : List ℕ) (p q : List Float) (n keep remove : ℕ) (limit : Option Float) (bound : Float) (a : StepAnswer) (w' : List ℕ) (p' q' : List Float)
     (r : Stepped) : Type 0 where
   pub tied : HeapAnswer v f (pair_state v f w p q n (pair_of keep remove)) w p q limit bound a w' p' q' r
   pub raised : StampsRaised v f w a w'

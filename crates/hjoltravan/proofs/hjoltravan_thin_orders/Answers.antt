@@ -9,21 +9,18 @@ use Rattle.hjoltravan.proofs.hjoltravan_thin_orders.Goals as goal
 pub returns-then-refused : goal.returns-then-refused
 returns-then-refused c = called-turned-away c.args.orders.now _ _ (sym c.refused.ensures ∙ c.if-refused.true)
 
-pub loop-k-init : goal.loop-k-init
-loop-k-init c = record { few = omega arith; done = none_yet }
+pub loop-place-init : goal.loop-place-init
+loop-place-init c = none_yet
 
 pub thin_order-requires : goal.thin_order-requires
 thin_order-requires c =
-    ready c.args.orders.now (sources c.args.points.now c.args.faces.now c.args.margins.now) _ (sym c.refused.ensures ∙ c.if-refused.false) (omega arith) c.loop-k.invariant.done
+    ready c.args.orders.now (sources c.args.points.now c.args.faces.now c.args.margins.now) _ (sym c.refused.ensures ∙ c.if-refused.false) (omega arith) c.loop-place.invariant
 
-pub loop-k-preserved : goal.loop-k-preserved
-loop-k-preserved c =
-    record {
-      few = omega arith;
-      done = ready-next c.args.orders.now (sources c.args.points.now c.args.faces.now c.args.margins.now) _ (omega arith) c.loop-k.invariant.done c.thin_order.ensures;
-    }
+pub loop-place-preserved : goal.loop-place-preserved
+loop-place-preserved c =
+    ready-next c.args.orders.now (sources c.args.points.now c.args.faces.now c.args.margins.now) _ (omega arith) c.loop-place.invariant c.thin_order.ensures
 
 pub returns : goal.returns
 returns c =
     called-served c.args.orders.now (sources c.args.points.now c.args.faces.now c.args.margins.now) (sym c.refused.ensures ∙ c.if-refused.false)
-    (rw (le_antisymm c.loop-k.invariant.few (omega arith)) at c.loop-k.invariant.done)
+    (rw (le_antisymm c.loop-place.auto.place-end (omega arith)) at c.loop-place.invariant)

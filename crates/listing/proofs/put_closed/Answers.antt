@@ -7,4 +7,4 @@ pub returns : goal.returns
 unfolding closed_text
 returns c =
     both c.put_word-first.ensures
-    (both c.put_long_number-second.ensures (both c.put_long_number-third.ensures c.put_long_number.ensures))
+    (both c.put_number-second.ensures (both c.put_number-third.ensures c.put_number.ensures))

@@ -1,7 +1,5 @@
--- `listing::put_faces` meets its contract. The loop's invariant: the first k lines are stored.
--- The measure is the lines left. Assumes nothing.
-use native.Mathlib.Omega.{arith}
-use mathlib.Core.Path.{◌≡◌}
+-- One line after another.
+use Rattle.std.proofs.Common.{◌≡◌, arith}
 use Rattle.text.specs.Lines.{lines_to}
 use Rattle.lists.proofs.PutLaws.{none}
 use Rattle.text.proofs.LineLaws.{line-more}
@@ -9,13 +7,12 @@ use Rattle.listing.proofs.put_faces.Goals as goal
 
 pub loop-k-init : goal.loop-k-init
 unfolding lines_to
-loop-k-init c = (omega arith, none _ _)
+loop-k-init c = none _ _
 
 pub loop-k-preserved : goal.loop-k-preserved
-loop-k-preserved c =
-    (omega arith, line-more _ 33 _ c.loop-k.invariant.1 c.put_face-next.ensures)
+loop-k-preserved c = line-more _ 33 _ c.loop-k.invariant c.put_face-next.ensures
 
 pub returns : goal.returns
 returns c =
     let all : c.loop-k.k ≡ c.args.f = omega arith in
-    rw all at c.loop-k.invariant.1
+    rw all at c.loop-k.invariant

@@ -1,8 +1,8 @@
--- `listing::put_mesh` meets its contract, one part after another. Assumes nothing.
+-- One part after another.
 use Rattle.listing.proofs.TextLaws.{mesh-stored}
 use Rattle.listing.proofs.put_mesh.Goals as goal
 
 pub returns : goal.returns
 returns c =
-    mesh-stored _ _ _ _ _ _ c.requires c.put_head-first_point.ensures c.put_points-count.ensures c.put_line-first_face.ensures
+    mesh-stored _ _ _ _ c.put_head-first_point.ensures c.put_points-count.ensures c.put_line-first_face.ensures
     c.put_faces.ensures

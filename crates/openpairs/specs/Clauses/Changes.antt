@@ -1,6 +1,5 @@
 -- What the functions on open pairs leave in the memory.
-use Rattle.std.specs.Prelude.{ℕ, ◌+◌, ◌≤◌, ◌<◌, ◌≡◌, List, Float}
-use Rattle.placement.specs.declared.Limit.{Limit}
+use Rattle.std.specs.Prelude.{ℕ, ◌+◌, ◌≤◌, ◌<◌, ◌≡◌, List, Float, Option}
 use Rattle.placement.specs.Pairs.{pair_place}
 use Rattle.walk.specs.declared.Pair.{Pair}
 use Rattle.lists.specs.Lists.{sum, those}
@@ -18,7 +17,7 @@ abbrev pub Named : (v f : ℕ) (w : List ℕ) (n : ℕ) → Type 0
 Named v f w n = (i : ℕ) → i < n → ((pair_at v f w i).keep < v) × ((pair_at v f w i).remove < v)
 
 -- what is found at the least open pair: its place in the list, the pair, and where it goes; no open pair comes before it in the order
-pub record LeastAt (v f : ℕ) (w : List ℕ) (p q : List Float) (n : ℕ) (limit : Limit) (bound : Float) (r : Least) : Type 0 where
+pub record LeastAt (v f : ℕ) (w : List ℕ) (p q : List Float) (n : ℕ) (limit : Option Float) (bound : Float) (r : Least) : Type 0 where
   pub within : r.at < n
   pub pair_unchanged : pair_at v f w r.at ≡ pair_of r.fold.keep r.fold.remove
   pub place : r.fold.place ≡ pair_place bound (vertex_at v f w p q r.fold.keep) (vertex_at v f w p q r.fold.remove)

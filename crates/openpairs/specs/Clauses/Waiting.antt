@@ -1,6 +1,5 @@
 -- Listed points wait to be opened with x, and the lent memory while they are.
-use Rattle.std.specs.Prelude.{ℕ, ◌+◌, ◌*◌, ◌≤◌, ◌<◌, List, map, Bool, length, get_or, Float}
-use Rattle.placement.specs.declared.Limit.{Limit}
+use Rattle.std.specs.Prelude.{ℕ, ◌+◌, ◌*◌, ◌≤◌, ◌<◌, List, map, Bool, length, get_or, Float, Option}
 use Rattle.placement.specs.Pairs.{eligible}
 use Rattle.walk.specs.declared.Pair.{Pair}
 use Rattle.lists.specs.Lists.{those}
@@ -9,7 +8,7 @@ use Rattle.memory.specs.Memory.{Room, around_in}
 use Rattle.memory.specs.Points.{vertex_at}
 use Rattle.memory.specs.Layout.{around_from}
 
-module _ (v f : ℕ) (w : List ℕ) (p q : List Float) (limit : Limit) (bound : Float) (x : ℕ) where
+module _ (v f : ℕ) (w : List ℕ) (p q : List Float) (limit : Option Float) (bound : Float) (x : ℕ) where
   -- whether x with y is eligible
   unfoldable pub fits : ℕ → Bool
   fits y = eligible limit bound (vertex_at v f w p q x) (vertex_at v f w p q y)
@@ -19,7 +18,7 @@ module _ (v f : ℕ) (w : List ℕ) (p q : List Float) (limit : Limit) (bound : 
   waiting n = map (pair_of x) (those fits (around_in v f w n))
 
 -- the lent memory has its room, x and the listed points are some of the points, and there is a place for each pair that waits
-pub record PairsReady (v f : ℕ) (w : List ℕ) (p q : List Float) (limit : Limit) (bound : Float) (x count n : ℕ) : Type 0 where
+pub record PairsReady (v f : ℕ) (w : List ℕ) (p q : List Float) (limit : Option Float) (bound : Float) (x count n : ℕ) : Type 0 where
   pub room : Room v f w
   pub points_long : 3 * v ≤ length p
   pub quadrics_long : 10 * v ≤ length q

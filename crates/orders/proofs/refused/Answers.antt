@@ -1,19 +1,30 @@
--- `orders::refused` meets its contract: `found` says whether there are too many orders, or one of those before k is misplaced or clashes.
--- Those that are looked at tell the rest.
--- Assumes nothing.
-use Rattle.std.proofs.Common.{◌≡◌, ◌<◌, length, ap, ◌∙◌, arith}
-use Rattle.orders.proofs.LoopLaws.{found, found_none, found-one-more, found_all, looked-most}
+-- `orders::refused` meets its contract: there are too many orders, or the one at hand is bad, or none is. Assumes nothing.
+use Rattle.std.proofs.Common.{sym, ◌∙◌, le_antisymm, arith}
+use Rattle.orders.proofs.BeforeLaws.{some-none, none-next, many-refused, bad-refused, none-refused, misplaced-bad, clashing-bad, good-at}
 use Rattle.orders.proofs.refused.Goals as goal
+use Rattle.orders.proofs.refused.Goals.{then-misplaced-via-then-misplaced, then-misplaced-via-else-misplaced+then-clashes}
 
-pub loop-k-init : goal.loop-k-init
-loop-k-init c = (omega arith, c.too_many-found.ensures ∙ found_none c.args.orders.now c.args.cells)
+pub returns-then-too_many : goal.returns-then-too_many
+returns-then-too_many c = many-refused c.args.orders.now c.args.cells (sym c.too_many.ensures ∙ c.if-too_many.true)
 
-pub loop-k-preserved : goal.loop-k-preserved
-loop-k-preserved c =
-    let less : c.loop-k.k < length c.args.orders.now = omega (arith, c.looked_at-n.ensures, looked-most (length c.args.orders.now)) in
-    (omega arith, found-one-more c.args.orders.now c.args.cells c.loop-k.k _ less c.loop-k.invariant.1 c.misplaced.ensures c.clashes.ensures)
+pub loop-place-init : goal.loop-place-init
+loop-place-init c = some-none _
+
+pub returns-then-misplaced : goal.returns-then-misplaced
+returns-then-misplaced c =
+    bad-refused c.args.orders.now c.args.cells c.loop-place.place c.loop-place-test.true
+    (elim c.then-misplaced.branch [
+      | then-misplaced-via-then-misplaced w ↦
+          misplaced-bad c.args.orders.now c.args.cells c.loop-place.place _ c.loop-place-test.true (sym c.misplaced.ensures ∙ w.if-misplaced.true)
+      | then-misplaced-via-else-misplaced+then-clashes w ↦ clashing-bad c.args.orders.now c.args.cells c.loop-place.place (sym w.clashes.ensures ∙ w.if-clashes.true)
+    ])
+
+pub loop-place-preserved : goal.loop-place-preserved
+loop-place-preserved c =
+    none-next _ c.loop-place.place c.loop-place.invariant
+    (good-at c.args.orders.now c.args.cells c.loop-place.place _ c.loop-place-test.true (sym c.misplaced.ensures ∙ c.if-misplaced.false) (sym c.clashes.ensures ∙ c.if-clashes.false))
 
 pub returns : goal.returns
 returns c =
-    let all : c.loop-k.k ≡ c.looked_at-n.result = omega arith in
-    c.loop-k.invariant.1 ∙ ap (found c.args.orders.now c.args.cells) (all ∙ c.looked_at-n.ensures) ∙ found_all c.args.orders.now c.args.cells
+    none-refused c.args.orders.now c.args.cells (sym c.too_many.ensures ∙ c.if-too_many.false)
+    (rw (le_antisymm c.loop-place.auto.place-end (omega arith)) at c.loop-place.invariant)

@@ -1,10 +1,8 @@
--- The loop invariant of `orders::refused`: whether there are too many orders, or one of those looked at so far is misplaced or clashes.
-use Rattle.std.proofs.Common.{◌-◌, ◌≡◌, ◌≤◌}
-use Rattle.orders.proofs.LoopLaws as Loop
+-- The loop invariant of `orders::refused`: none of the orders before the one at hand is bad.
+use Rattle.std.proofs.Common.{◌≡◌, false}
+use Rattle.lists.specs.Lists.{some, below}
+use Rattle.orders.specs.Refused.{bad_order}
 use Rattle.orders.proofs.refused.Given as goal
 
-abbrev pub invariant-loop-k : goal.invariant-loop-k
-invariant-loop-k l = (l.k ≤ l.n) × (l.found ≡ Loop.found l.orders l.cells l.k)
-
-abbrev pub decreases-loop-k : goal.decreases-loop-k
-decreases-loop-k l = l.n - l.k
+abbrev pub invariant-loop-place : goal.invariant-loop-place
+invariant-loop-place l = some (bad_order l.orders l.cells) (below l.place) ≡ false

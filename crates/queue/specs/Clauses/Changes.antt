@@ -1,5 +1,5 @@
 -- What the queue's functions leave in the memory.
-use Rattle.std.specs.Prelude.{ℕ, ◌+◌, ◌*◌, ◌-◌, ◌≤◌, ◌<◌, ◌≡◌, List, [], ◌∷◌, ◌++◌, true, not, Float}
+use Rattle.std.specs.Prelude.{ℕ, ◌+◌, ◌*◌, ◌-◌, ◌≤◌, ◌<◌, ◌≡◌, List, [], ◌∷◌, ◌++◌, true, not, Float, Option, Some, None}
 use Rattle.walk.specs.declared.Pair.{Pair}
 use Rattle.geometry.specs.declared.Point.{Point}
 use Rattle.lists.specs.Lists.{sum, those, every, SameBag}
@@ -10,8 +10,6 @@ use Rattle.memory.specs.Entries.{stamp, entry_in, EntriesOnly}
 use Rattle.queue.specs.State.{open_in}
 use Rattle.queue.specs.Stored.{stamps_of, entries_in, is_old, entry_rank, LeastCurrent, Requeued}
 use Rattle.queue.specs.Clauses.Queued.{Queue}
-use Rattle.queue.specs.declared.Taken.{Taken}
-use Rattle.queue.specs.declared.Taken.TheVariants.{Found, Empty}
 use Rattle.memory.specs.Layout.{costs_to, entries_from, folds_from, places_to, stamps_from}
 
 -- an entry was among the first n
@@ -56,9 +54,9 @@ pub record NoneLeft (v f : ℕ) (w : List ℕ) (p q : List Float) (n : ℕ) (w' 
   pub old : every (is_old (stamps_of v f w)) (entries_in v f w p q n) ≡ true
 
 -- entries are taken off up to the first current one
-abbrev pub TookCurrent : (v f : ℕ) (w : List ℕ) (p q : List Float) (n : ℕ) (w' : List ℕ) (p' q' : List Float) (r : Taken) → Type 0
-TookCurrent v f w p q n w' p' q' (Found top left) = TakenOff v f w p q n w' p' q' top left
-TookCurrent v f w p q n w' p' q' Empty = NoneLeft v f w p q n w' p' q'
+abbrev pub TookCurrent : (v f : ℕ) (w : List ℕ) (p q : List Float) (n : ℕ) (w' : List ℕ) (p' q' : List Float) (r : Option (Entry × ℕ)) → Type 0
+TookCurrent v f w p q n w' p' q' (Some (top, left)) = TakenOff v f w p q n w' p' q' top left
+TookCurrent v f w p q n w' p' q' None = NoneLeft v f w p q n w' p' q'
 
 -- the current entries come first, n' of them, in their order
 pub record CurrentFirst (v f : ℕ) (w : List ℕ) (p q : List Float) (n : ℕ) (w' : List ℕ) (p' q' : List Float) (n' : ℕ) : Type 0 where

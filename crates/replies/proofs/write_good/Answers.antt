@@ -20,17 +20,17 @@ good c = good-file _ _ c.requires.fact_2
 -- ---- its points are all there, its faces and its margin
 points_there : (c : After-read_points) → 3 * c.args.head.points ≤ length c.read_points.new.out
 points_there c =
-    over-there (points_of c.args.bytes.now c.args.head.points) c.point_cells-points.result (3 * c.args.head.points)
+    over-there (points_of c.args.bytes.now c.args.head.points) c.zeros-points.result (3 * c.args.head.points)
     (points-length c.args.bytes.now c.args.head.points) c.read_points.ensures
 
 faces_there : (c : After-read_faces) → 3 * c.args.head.faces ≤ length c.read_faces.new.out
 faces_there c =
-    over-there (face_numbers_of c.args.bytes.now c.args.head.points c.args.head.faces) c.face_cells-faces.result (3 * c.args.head.faces)
+    over-there (face_numbers_of c.args.bytes.now c.args.head.points c.args.head.faces) c.zeros-faces.result (3 * c.args.head.faces)
     (faces-length c.args.bytes.now c.args.head.points c.args.head.faces) c.read_faces.ensures
 
 all_there : (c : After-read_margin) → c.args.head.margin ≤ length c.read_margin.new.out
 all_there c =
-    over-there (margin_of c.args.bytes.now c.args.head.points c.args.head.faces c.args.head.margin) c.margin_cells-margin.result c.args.head.margin
+    over-there (margin_of c.args.bytes.now c.args.head.points c.args.head.faces c.args.head.margin) c.zeros-margin.result c.args.head.margin
     (margin-length c.args.bytes.now c.args.head.points c.args.head.faces c.args.head.margin) c.read_margin.ensures
 
 -- ---- the needs
@@ -76,10 +76,10 @@ write_thinned-requires c =
 pub returns : goal.returns
 unfolding reply_by
 returns c =
-    let points_are = over-taken (points_of c.args.bytes.now c.args.head.points) c.point_cells-points.result (3 * c.args.head.points)
+    let points_are = over-taken (points_of c.args.bytes.now c.args.head.points) c.zeros-points.result (3 * c.args.head.points)
     (points-length c.args.bytes.now c.args.head.points) c.read_points.ensures in
-    let faces_are = over-taken (face_numbers_of c.args.bytes.now c.args.head.points c.args.head.faces) c.face_cells-faces.result (3 * c.args.head.faces)
+    let faces_are = over-taken (face_numbers_of c.args.bytes.now c.args.head.points c.args.head.faces) c.zeros-faces.result (3 * c.args.head.faces)
     (faces-length c.args.bytes.now c.args.head.points c.args.head.faces) c.read_faces.ensures in
-    let margin-is = over-taken (margin_of c.args.bytes.now c.args.head.points c.args.head.faces c.args.head.margin) c.margin_cells-margin.result c.args.head.margin
+    let margin-is = over-taken (margin_of c.args.bytes.now c.args.head.points c.args.head.faces c.args.head.margin) c.zeros-margin.result c.args.head.margin
     (margin-length c.args.bytes.now c.args.head.points c.args.head.faces c.args.head.margin) c.read_margin.ensures in
     rw (points_are, faces_are, margin-is) at c.write_thinned.ensures

@@ -11,14 +11,14 @@ use Rattle.replies.proofs.write_thinned.Goals as goal
 use Rattle.replies.proofs.write_thinned.Goals.{After-thin-answer}
 
 -- the library is handed that input
-same : (c : After-thin-answer) → input_of c.args.points.now c.args.faces.now c.args.margin.now (head_options c.args.head) ((lent c.point_cells-out_points.result c.face_cells-out_faces.result c.work_u32_cells-work_u32.result c.work_f32_cells-work_f32.result c.work_f64_cells-work_f64.result)) ≡ (call_of c.args.head c.args.points.now c.args.faces.now c.args.margin.now)
+same : (c : After-thin-answer) → input_of c.args.points.now c.args.faces.now c.args.margin.now (head_options c.args.head) ((lent c.zeros-out_points.result c.zeros-out_faces.result c.zeros-work_u32.result c.zeros-work_f32.result c.zeros-work_f64.result)) ≡ (call_of c.args.head c.args.points.now c.args.faces.now c.args.margin.now)
 same c =
-    same-call c.args.head c.args.points.now c.args.faces.now c.args.margin.now ((lent c.point_cells-out_points.result c.face_cells-out_faces.result c.work_u32_cells-work_u32.result c.work_f32_cells-work_f32.result c.work_f64_cells-work_f64.result))
-    c.point_cells-out_points.ensures c.face_cells-out_faces.ensures c.work_u32_cells-work_u32.ensures c.work_f32_cells-work_f32.ensures c.work_f64_cells-work_f64.ensures
+    same-call c.args.head c.args.points.now c.args.faces.now c.args.margin.now ((lent c.zeros-out_points.result c.zeros-out_faces.result c.zeros-work_u32.result c.zeros-work_f32.result c.zeros-work_f64.result))
+    c.zeros-out_points.ensures c.zeros-out_faces.ensures c.zeros-work_u32.ensures c.zeros-work_f32.ensures c.zeros-work_f64.ensures
 
 -- with the unit's number
-named : (c : After-thin-answer) → c.unit_number.result ≡ unit_number c.args.head.unit
-named c = c.unit_number.ensures
+named : (c : After-thin-answer) → c.from.result ≡ unit_number c.args.head.unit
+named c = c.from.ensures
 
 pub write_answer-requires : goal.write_answer-requires
 write_answer-requires c =

@@ -13,16 +13,16 @@ edge_end-end-requires c =
     let next = ahead-here c.requires.fact_1 c.loop-link.invariant c.loop-link-test.true in
     record { fact_1 = omega (arith, c.requires.fact_1.room); fact_2 = omega (arith, c.requires.fact_1.room, c.loop-link.invariant.but.same_length) }
 
-pub seen_at-requires : goal.seen_at-requires
-seen_at-requires c =
+pub around_at-requires : goal.around_at-requires
+around_at-requires c =
     omega (arith, c.edge_end-end.ensures, end_below c.requires.fact_1 c.loop-link.invariant c.loop-link-test.true, c.requires.fact_1.room, c.loop-link.invariant.but.same_length)
 
-pub returns-then-seen_at-here : goal.returns-then-seen_at-here
-returns-then-seen_at-here c =
-    look-found c.requires.fact_1 c.loop-link.invariant c.loop-link-test.true c.edge_end-end.ensures c.seen_at.ensures c.if-seen_at-here.true
+pub returns-then-around_at-here : goal.returns-then-around_at-here
+returns-then-around_at-here c =
+    look-found c.requires.fact_1 c.loop-link.invariant c.loop-link-test.true c.edge_end-end.ensures c.around_at.ensures c.if-around_at-here.true
 
-pub set_seen-requires : goal.set_seen-requires
-set_seen-requires c =
+pub set_around-requires : goal.set_around-requires
+set_around-requires c =
     omega (arith, c.edge_end-end.ensures, end_below c.requires.fact_1 c.loop-link.invariant c.loop-link-test.true, c.requires.fact_1.room, c.loop-link.invariant.but.same_length)
 
 pub next_at-link-requires : goal.next_at-link-requires
@@ -31,13 +31,13 @@ next_at-link-requires c =
 
 pub loop-link-smaller : goal.loop-link-smaller
 loop-link-smaller c =
-    look-less c.requires.fact_1 c.loop-link.invariant c.loop-link-test.true c.edge_end-end.ensures c.seen_at.ensures c.if-seen_at-here.false
-    c.set_seen.ensures c.next_at-link.ensures
+    look-less c.requires.fact_1 c.loop-link.invariant c.loop-link-test.true c.edge_end-end.ensures c.around_at.ensures c.if-around_at-here.false
+    c.set_around.ensures c.next_at-link.ensures
 
 pub loop-link-preserved : goal.loop-link-preserved
 loop-link-preserved c =
-    look-again c.requires.fact_1 c.loop-link.invariant c.loop-link-test.true c.edge_end-end.ensures c.seen_at.ensures c.if-seen_at-here.false
-    c.set_seen.ensures c.next_at-link.ensures
+    look-again c.requires.fact_1 c.loop-link.invariant c.loop-link-test.true c.edge_end-end.ensures c.around_at.ensures c.if-around_at-here.false
+    c.set_around.ensures c.next_at-link.ensures
 
 pub overflow_mul-result : goal.overflow_mul-result
 overflow_mul-result c = record { fits = omega (arith, c.requires.fact_1.room) }

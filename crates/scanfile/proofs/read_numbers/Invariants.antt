@@ -1,11 +1,8 @@
--- `scanfile::read_numbers` meets its contract. The loop's invariant: the first `i` numbers are written. The measure is how many are left.
+-- `scanfile::read_numbers` meets its contract. The loop's invariant: the first `i` numbers are written.
 -- Assumes nothing.
-use Prim.Native.Nat.{ℕ, ◌-◌}
+use Prim.Native.Nat.{ℕ}
 use Rattle.scanfile.proofs.ContentLaws.{Reading}
 use Rattle.scanfile.proofs.read_numbers.Given as goal
 
 abbrev pub invariant-loop-i : goal.invariant-loop-i
-invariant-loop-i l = Reading (λ (x : ℕ). x) l.bytes l.at l.n l.initial.out l.out l.i
-
-abbrev pub decreases-loop-i : goal.decreases-loop-i
-decreases-loop-i l = l.n - l.i
+invariant-loop-i l = Reading (λ (x : ℕ). x) l.bytes l.at l.n l.cell-items l.i

@@ -1,76 +1,82 @@
--- `scanfile::read_scan` meets its contract: each return is the answer after the tests that did not hold.
+-- `scanfile::read_scan` meets its contract: each return is the answer after the tests that passed.
 -- Assumes nothing.
 use Prim.Native.Nat.{ℕ, ◌+◌}
 use native.Mathlib.Omega.{arith}
 use mathlib.Core.Path.{◌≡◌, sym, ap, ◌∙◌}
+use borrow.Author.Rules.{rules}
+use Rattle.std.specs.Prelude.{Ok}
 use Rattle.scanfile.specs.Layout.{second_at, points_at, third_at}
 use Rattle.scanfile.specs.Faults.{record_fault, options_fault}
-use Rattle.scanfile.proofs.FaultLaws.{GoodRecord, passed, options-size, options-passed}
-use Rattle.scanfile.proofs.ScanLaws.{NoneRefused, first-refused, options-refused, second-refused, third-refused, three-passed}
+use Rattle.scanfile.proofs.FaultLaws.{passed, options-size, options-passed}
+use Rattle.scanfile.proofs.ScanLaws.{passes-at, NoneRefused, first-refused, options-refused, second-refused, third-refused, three-passed}
 use Rattle.scanfile.proofs.read_scan.Goals as goal
-use Rattle.scanfile.proofs.read_scan.Goals.{Else-first-ne0, Else-options-ne0, Else-second-ne0, Else-third-ne0}
+use Rattle.scanfile.proofs.read_scan.Goals.{In_ok-check_record, In_ok-check_options, In_ok-check_record-2, In_ok-check_record-3}
 
-first : (c : Else-first-ne0) → record_fault c.args.bytes.now 1 0 ≡ 0
-first c = sym c.record_fault-first.ensures ∙ c.if-first-ne0.false
+-- ---- what passed
 
-options : (c : Else-options-ne0) → options_fault c.args.bytes.now ≡ 0
-options c = sym c.options_fault-options.ensures ∙ c.if-options-ne0.false
+first : (c : In_ok-check_record) → record_fault c.args.bytes.now 1 0 ≡ Ok tt
+first c = passes-at _ _ (sym c.in_ok-check_record.was ∙ c.check_record.ensures)
 
-second : (c : Else-second-ne0) → GoodRecord c.args.bytes.now 2 second_at
-second c = passed _ _ _ (sym c.record_fault-second.ensures ∙ c.if-second-ne0.false)
+options : (c : In_ok-check_options) → options_fault c.args.bytes.now ≡ Ok tt
+options c = passes-at _ _ (sym c.in_ok-check_options.was ∙ c.check_options.ensures)
 
-none_refused : (c : Else-third-ne0) → NoneRefused c.args.bytes.now
-none_refused c =
-    record {
-      first = sym c.record_fault-first.ensures ∙ c.if-first-ne0.false;
-      options = sym c.options_fault-options.ensures ∙ c.if-options-ne0.false;
-      second = sym c.record_fault-second.ensures ∙ c.if-second-ne0.false;
-      third =
-          ap (λ (size : ℕ). record_fault c.args.bytes.now 3 (points_at + size)) (sym c.four_bytes.ensures)
-          ∙ sym c.record_fault-third.ensures
-          ∙ c.if-third-ne0.false;
-    }
+second : (c : In_ok-check_record-2) → record_fault c.args.bytes.now 2 second_at ≡ Ok tt
+second c = passes-at _ _ (sym c.in_ok-check_record-2.was ∙ c.check_record-2.ensures)
 
-pub returns-then-first-ne0 : goal.returns-then-first-ne0
-returns-then-first-ne0 c = first-refused _ _ c.record_fault-first.ensures c.if-first-ne0.true
+pub returns-in_err-check_record : goal.returns-in_err-check_record
+returns-in_err-check_record c = let e = first-refused _ (sym c.in_err-check_record.was ∙ c.check_record.ensures) in search rules
 
-pub options_fault-options-requires : goal.options_fault-options-requires
-options_fault-options-requires c = let p = passed _ _ _ (first (goal.at.options_fault-options-requires c).Else-first-ne0) in omega (arith, p.room, options-size p)
+pub check_options-requires : goal.check_options-requires
+check_options-requires c = let p = passed _ _ _ (first (goal.at.check_options-requires c).In_ok-check_record) in omega (arith, p.room, options-size p)
 
-pub returns-then-options-ne0 : goal.returns-then-options-ne0
-returns-then-options-ne0 c = options-refused _ _ (first (goal.at.returns-then-options-ne0 c).Else-first-ne0) c.options_fault-options.ensures c.if-options-ne0.true
+pub returns-in_err-check_options : goal.returns-in_err-check_options
+returns-in_err-check_options c =
+    let e = options-refused _ (first (goal.at.returns-in_err-check_options c).In_ok-check_record) (sym c.in_err-check_options.was ∙ c.check_options.ensures) in
+    search rules
 
-pub returns-then-second-ne0 : goal.returns-then-second-ne0
-returns-then-second-ne0 c =
-    second-refused _ _ (first (goal.at.returns-then-second-ne0 c).Else-first-ne0) (options (goal.at.returns-then-second-ne0 c).Else-options-ne0) c.record_fault-second.ensures c.if-second-ne0.true
+pub returns-in_err-check_record-2 : goal.returns-in_err-check_record-2
+returns-in_err-check_record-2 c =
+    let e = second-refused _ (first (goal.at.returns-in_err-check_record-2 c).In_ok-check_record) (options (goal.at.returns-in_err-check_record-2 c).In_ok-check_options)
+    (sym c.in_err-check_record-2.was ∙ c.check_record-2.ensures) in
+    search rules
 
 pub four_bytes-requires : goal.four_bytes-requires
-four_bytes-requires c = omega (arith, (second (goal.at.four_bytes-requires c).Else-second-ne0).room)
+four_bytes-requires c = omega (arith, (passed _ _ _ (second (goal.at.four_bytes-requires c).In_ok-check_record-2)).room)
 
-pub record_fault-third-requires : goal.record_fault-third-requires
-record_fault-third-requires c = omega (arith, c.four_bytes.ensures, (second (goal.at.record_fault-third-requires c).Else-second-ne0).size_most)
+pub check_record-requires-3 : goal.check_record-requires-3
+check_record-requires-3 c = omega (arith, c.four_bytes.ensures, (passed _ _ _ (second (goal.at.check_record-requires-3 c).In_ok-check_record-2)).size_most)
 
-pub overflow_cast-result-then-third-ne0 : goal.overflow_cast-result-then-third-ne0
-overflow_cast-result-then-third-ne0 c =
-    record { fits = omega (arith, c.four_bytes.ensures, (second (goal.at.overflow_cast-result-then-third-ne0 c).Else-second-ne0).size_most) }
+pub returns-in_err-check_record-3 : goal.returns-in_err-check_record-3
+returns-in_err-check_record-3 c =
+    let here = ap (λ (n : ℕ). points_at + n) c.four_bytes.ensures in
+    let e = third-refused _ (first (goal.at.returns-in_err-check_record-3 c).In_ok-check_record) (options (goal.at.returns-in_err-check_record-3 c).In_ok-check_options)
+    (second (goal.at.returns-in_err-check_record-3 c).In_ok-check_record-2) _ here (sym c.in_err-check_record-3.was ∙ c.check_record-3.ensures) in
+    search rules
 
-pub returns-then-third-ne0 : goal.returns-then-third-ne0
-returns-then-third-ne0 c =
-    third-refused _ _ (first (goal.at.returns-then-third-ne0 c).Else-first-ne0) (options (goal.at.returns-then-third-ne0 c).Else-options-ne0) (sym c.record_fault-second.ensures ∙ c.if-second-ne0.false) _
-    (ap (λ (n : ℕ). points_at + n) c.four_bytes.ensures) c.record_fault-third.ensures c.if-third-ne0.true
+none_refused : (c : In_ok-check_record-3) → NoneRefused c.args.bytes.now
+none_refused c =
+    record {
+      first = passes-at _ _ (sym c.in_ok-check_record.was ∙ c.check_record.ensures);
+      options = passes-at _ _ (sym c.in_ok-check_options.was ∙ c.check_options.ensures);
+      second = passes-at _ _ (sym c.in_ok-check_record-2.was ∙ c.check_record-2.ensures);
+      third =
+          ap (λ (size : ℕ). record_fault c.args.bytes.now 3 (points_at + size)) (sym c.four_bytes.ensures)
+          ∙ passes-at _ _ (sym c.in_ok-check_record-3.was ∙ c.check_record-3.ensures);
+    }
 
 pub read_tail-requires : goal.read_tail-requires
 read_tail-requires c =
     let file = (c.args.bytes.now) in
+    let none = none_refused (goal.at.read_tail-requires c).In_ok-check_record-3 in
     let here : points_at + c.four_bytes.result ≡ third_at file = ap (λ (n : ℕ). points_at + n) c.four_bytes.ensures in
-    let third = passed file 3 (third_at file) (none_refused (goal.at.read_tail-requires c).Else-third-ne0).third in
+    let third = passed file 3 (third_at file) none.third in
     record {
       third_stands = here;
-      third_most = omega (arith, (second (goal.at.read_tail-requires c).Else-second-ne0).size_most);
+      third_most = omega (arith, (passed _ _ _ none.second).size_most);
       size_most = rw here third.size_most;
       there = rw here third.room;
-      unit_known = (options-passed file (none_refused (goal.at.read_tail-requires c).Else-third-ne0).options).0;
+      unit_known = (options-passed file none.options).0;
     }
 
 pub returns : goal.returns
-returns c = c.read_tail.ensures ∙ three-passed (none_refused (goal.at.returns c).Else-third-ne0)
+returns c = c.read_tail.ensures ∙ three-passed (none_refused (goal.at.returns c).In_ok-check_record-3)

@@ -1,5 +1,4 @@
--- `scanwriter::put_points` meets its contract. The loop's invariant: the bits of the first i coordinates are stored. The measure is how many are left.
--- Assumes nothing.
+-- One number after another.
 use native.Mathlib.Omega.{arith}
 use mathlib.Core.Path.{◌≡◌, sym, ◌∙◌}
 use mathlib.Core.List.{List, map}
@@ -12,14 +11,14 @@ use Rattle.scanwriter.proofs.put_points.Goals as goal
 counted : (points : List Float) → length (map (to_bits binary32) points) ≡ length points
 counted points = length-map points (to_bits binary32)
 
-pub loop-i-init : goal.loop-i-init
-loop-i-init c = none-stored _ _ _
+pub loop-x-init : goal.loop-x-init
+loop-x-init c = none-stored _ _ _
 
-pub loop-i-preserved : goal.loop-i-preserved
-loop-i-preserved c =
+pub loop-x-preserved : goal.loop-x-preserved
+loop-x-preserved c =
     one-stored _ _ _ (to_bits binary32 nan) (omega (arith, counted c.args.points.now))
-    (c.bits_of_f32.ensures ∙ sym (get_or-map (to_bits binary32) c.args.points.now c.loop-i.i nan)) c.loop-i.invariant c.put_four-next.ensures
+    (c.bits_of_f32.ensures ∙ sym (get_or-map (to_bits binary32) c.args.points.now c.loop-x.x-index nan)) c.loop-x.invariant c.put_four-next.ensures
 
 pub returns : goal.returns
 returns c =
-    rw (counted c.args.points.now) at (all-stored _ _ _ (omega (arith, counted c.args.points.now)) c.loop-i.invariant)
+    rw (counted c.args.points.now) at (all-stored _ _ _ (omega (arith, counted c.args.points.now)) c.loop-x.invariant)

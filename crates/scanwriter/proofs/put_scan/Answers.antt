@@ -5,7 +5,7 @@ use Rattle.scanwriter.proofs.WritingLaws.{scan-put}
 use Rattle.scanwriter.proofs.put_scan.Goals as goal
 
 pub put_options-second-requires : goal.put_options-second-requires
-put_options-second-requires c = record { fact_1 = number_short _ c.requires.unit_known; fact_2 = omega arith }
+put_options-second-requires c = record { two_bytes = number_short _ c.requires.unit_known; room = omega arith }
 
 pub returns : goal.returns
 returns c =

@@ -1,16 +1,16 @@
--- `scanwriter::write_scan` meets its contract: what fits is written whole, and a refusal writes nothing. Assumes nothing.
-use mathlib.Core.Path.{sym, ◌∙◌}
+-- What fits is written whole, and a refusal writes nothing.
+use Rattle.std.proofs.Common.{sym, ◌∙◌}
+use Rattle.std.proofs.lemmas.Result.{err_from_is_err_and}
 use Rattle.scanwriter.proofs.WritingLaws.{fits, all-written, none_written}
 use Rattle.scanwriter.proofs.write_scan.Goals as goal
 
 pub put_scan-requires : goal.put_scan-requires
-put_scan-requires c =
-    (fits _ _ _ _ _ (sym c.writing_of.ensures ∙ c.in-Bytes.is)).0
+put_scan-requires c = (fits _ _ _ _ _ (sym c.writing_of.ensures ∙ c.in_ok-size.was)).0
 
-pub returns-in-Bytes : goal.returns-in-Bytes
-returns-in-Bytes c =
-    all-written _ _ _ _ (sym c.in-Bytes.is ∙ c.writing_of.ensures) c.put_scan.ensures
+pub returns : goal.returns
+returns c = all-written _ _ _ _ (sym c.in_ok-size.was ∙ c.writing_of.ensures) c.put_scan.ensures
 
-pub returns-in-Refused : goal.returns-in-Refused
-returns-in-Refused c =
-    none_written _ _ _ _ (sym c.in-Refused.is ∙ c.writing_of.ensures)
+pub returns-in_err-size : goal.returns-in_err-size
+returns-in_err-size c =
+    let same = err_from_is_err_and c.from_residual.result c.from_residual.ensures.1 in
+    rw (same.1, same.2) (none_written _ _ _ _ (sym c.in_err-size.was ∙ c.writing_of.ensures))

@@ -10,8 +10,8 @@ use Rattle.serving.proofs.tell_at.Goals as goal
 
 pub returns : goal.returns
 returns c = (
-  part-put (five_at c.args.place) c.args.answers.now c.tell_five.new.cells
-      ∙ ap (λ (new : List ℕ). replaced (five_at c.args.place) new c.args.answers.now) c.tell_five.ensures,
-  part-put (three_at c.args.place) c.args.closed.now c.tell_three.new.cells
-      ∙ ap (λ (new : List ℕ). replaced (three_at c.args.place) new c.args.closed.now) c.tell_three.ensures,
+  part-put (five_at c.args.place) c.args.answers.now c.tell.new.five
+      ∙ ap (λ (new : List ℕ). replaced (five_at c.args.place) new c.args.answers.now) c.tell.ensures.five,
+  part-put (three_at c.args.place) c.args.closed.now c.tell.new.three
+      ∙ ap (λ (new : List ℕ). replaced (three_at c.args.place) new c.args.closed.now) c.tell.ensures.three,
 )

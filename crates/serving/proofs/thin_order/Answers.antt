@@ -7,7 +7,7 @@ use Rattle.serving.proofs.thin_order.Goals as goal
 
 pub tell_at-requires : goal.tell_at-requires
 tell_at-requires c =
-    record { fact_1 = c.requires.answer; fact_2 = c.requires.closed }
+    record { five_fit = c.requires.answer; three_fit = c.requires.closed }
 
 pub returns : goal.returns
 returns c =

@@ -1,10 +1,14 @@
--- `text::put_decimal` meets its contract: a number has at most ten digits. Assumes nothing.
-use native.Mathlib.Omega.{arith}
-use Rattle.text.proofs.DigitLaws.{digit-count-most, decimal-stored}
+-- No more digits are counted than there is room for.
+use Rattle.std.proofs.Common.{◌-◌, arith}
+use Rattle.text.proofs.DigitLaws.{digit-count-most, counted-stored}
 use Rattle.text.proofs.put_decimal.Goals as goal
 
-pub put_digits-requires : goal.put_digits-requires
-put_digits-requires c = record { fact_1 = omega arith; fact_2 = omega arith; fact_3 = omega (arith, digit-count-most 9 c.args.n) }
+pub put_digits-requires-clause-room : goal.put_digits-requires-clause-room
+put_digits-requires-clause-room g c =
+    let written = g.met.N.Decimal.written c.args.n c.into-value.result c.into-value.ensures in
+    omega (arith, digit-count-most (c.MOST.result - 1) c.into-value.result, written.0)
 
 pub returns : goal.returns
-returns c = decimal-stored c.args.n c.digit_count-k.ensures c.put_digits.ensures
+returns g c =
+    let written = g.met.N.Decimal.written c.args.n c.into-value.result c.into-value.ensures in
+    counted-stored _ _ written (rw c.MOST.ensures at c.digit_count-k.ensures) c.put_digits.ensures

@@ -1,6 +1,6 @@
--- `text::put_number` meets its contract, one part after another. Assumes nothing.
+-- One part after another.
 use Rattle.lists.proofs.PutLaws.{both}
 use Rattle.text.proofs.put_number.Goals as goal
 
 pub returns : goal.returns
-returns c = both c.put_decimal-next.ensures c.put_byte.ensures
+returns g c = both c.put_decimal-next.ensures c.put_byte.ensures

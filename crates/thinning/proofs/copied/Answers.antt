@@ -1,5 +1,6 @@
 -- `thinning::copied` meets its contract: the mesh is copied and the work memory cleared.
 -- Assumes nothing.
+use Rattle.walk.proofs.ClosingLaws.{default-closed}
 use Rattle.walking.proofs.FitLaws.{points_fit, few-fits}
 use Rattle.thinning.proofs.copied.Goals as goal
 
@@ -15,7 +16,7 @@ overflow_cast-result-2 c = few-fits c.requires.working.u32s.faces_few
 pub returns : goal.returns
 returns c =
     record {
-      answered = rw c.none_closed-closed.ensures;
+      answered = rw (default-closed {closed = c.default.result} c.default.ensures);
       points_written = c.copy_mesh.ensures.points;
       faces_written = c.copy_mesh.ensures.faces;
       u32s_left = c.clear.ensures.u32s;

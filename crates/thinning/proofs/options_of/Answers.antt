@@ -3,4 +3,4 @@
 use Rattle.thinning.proofs.options_of.Goals as goal
 
 pub returns : goal.returns
-returns c = rw c.limit_of-most.ensures
+returns c = rw c.then_some.ensures

@@ -1,10 +1,11 @@
--- `wording::put_where` meets its contract, one part after another. Assumes nothing.
+-- A word, and the place after it.
+use Rattle.std.proofs.Common.{sym, ◌∙◌}
 use Rattle.wording.proofs.MeaningLaws.{no_place, place-put}
 use Rattle.wording.proofs.put_where.Goals as goal
 
-pub returns-then-next-at : goal.returns-then-next-at
-returns-then-next-at c = no_place _ c.put_cell-next.ensures c.if-next-at.true
+pub returns-then-is_empty : goal.returns-then-is_empty
+returns-then-is_empty c = no_place _ _ _ _ (sym c.is_empty.ensures ∙ c.if-is_empty.true)
 
 pub returns : goal.returns
 returns c =
-    place-put _ c.put_cell-next.ensures c.if-next-at.false c.put_number.ensures
+    place-put _ _ (sym c.is_empty.ensures ∙ c.if-is_empty.false) c.put_word-next.ensures c.put_number.ensures

@@ -1,5 +1,5 @@
--- `wording::put_words` meets its contract, one part after another. Assumes nothing.
-use native.Mathlib.Omega.{arith}
+-- One part after another.
+use Rattle.std.proofs.Common.{arith}
 use Rattle.lists.proofs.PutLaws.{both, wider}
 use Rattle.wording.specs.Meanings.{words_line}
 use Rattle.wording.proofs.put_words.Goals as goal
@@ -7,8 +7,9 @@ use Rattle.wording.proofs.put_words.Goals as goal
 pub returns : goal.returns
 unfolding words_line
 returns c =
-    wider (omega arith)
+    let means = c.meaning-meaning.ensures in
+    wider (omega (arith, means.short))
     (both c.put_word-first.ensures
     (both c.put_decimal-second.ensures
     (both c.put_word-third.ensures
-    (both (rw c.meaning-cells.ensures.words at c.put_cell-fourth.ensures) (both (rw c.meaning-cells.ensures.place at c.put_where-last.ensures) c.put_byte.ensures)))))
+    (both (rw means.words at c.put_word-fourth.ensures) (both (rw means.place at c.put_where-last.ensures) c.put_byte.ensures)))))

@@ -6,16 +6,16 @@ use Rattle.walk.specs.Faces.{holds, face_at}
 use Rattle.folding.specs.Clauses.Steps.{killed}
 use Rattle.folding.proofs.steps.kill_face.Goals as goal
 
-pub returns-then-face_holds : goal.returns-then-face_holds
+pub returns-then-held-clause-killed : goal.returns-then-held-clause-killed
 unfolding killed
-returns-then-face_holds c =
+returns-then-held-clause-killed c =
     let held : holds c.args.x (face_at c.args.w.now c.args.k) ≡ true =
-    sym (ap (holds c.args.x) c.face_in.ensures) ∙ sym c.face_holds.ensures ∙ c.if-face_holds.true in
-    (c.set_live.ensures ∙ rw held, rw held)
+    sym (ap (holds c.args.x) c.face_in.ensures) ∙ sym c.holds-held.ensures ∙ c.if-held.true in
+    c.set_live.ensures ∙ rw held
 
-pub returns : goal.returns
+pub returns-else-held-clause-killed : goal.returns-else-held-clause-killed
 unfolding killed
-returns c =
+returns-else-held-clause-killed c =
     let held : holds c.args.x (face_at c.args.w.now c.args.k) ≡ false =
-    sym (ap (holds c.args.x) c.face_in.ensures) ∙ sym c.face_holds.ensures ∙ c.if-face_holds.false in
-    (rw held, rw held)
+    sym (ap (holds c.args.x) c.face_in.ensures) ∙ sym c.holds-held.ensures ∙ c.if-held.false in
+    rw held

@@ -1,5 +1,5 @@
 -- `folding::steps::relist` meets its contract. The loop's invariant: the first `i` slots have had their turn.
--- The measure is what is left of `n`. Assumes nothing.
+-- Assumes nothing.
 use Prim.Native.Nat.{◌<◌}
 use native.Mathlib.Omega.{arith}
 use Rattle.folding.proofs.TurnLaws.{turn-start, turn_inside, turn-next, turn_end}

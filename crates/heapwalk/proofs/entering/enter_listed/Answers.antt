@@ -28,12 +28,9 @@ pub enter_pair-entries-requires : goal.enter_pair-entries-requires
 enter_pair-entries-requires c =
     record { fact_1 = turn-ready c.requires.fact_1 c.requires.fact_2 c.loop-i.invariant.1 c.loop-i-test.true c.around_at-y.ensures; fact_2 = rw (← c.around_at-y.ensures) at (c.quadric_at-quadric.ensures ∙ c.read_ahead.ensures.read c.loop-i.i (le_refl c.loop-i.i) c.loop-i-test.true refl) }
 
-pub overflow_add-i : goal.overflow_add-i
-overflow_add-i c =
+pub overflow_step-i : goal.overflow_step-i
+overflow_step-i c =
     omega (arith, c.requires.fact_2, c.requires.fact_1.«open».tidy.room.points_few, c.loop-i-test.true)
-
-pub loop-i-smaller : goal.loop-i-smaller
-loop-i-smaller c = omega (arith, c.loop-i-test.true)
 
 pub loop-i-preserved : goal.loop-i-preserved
 loop-i-preserved c = (

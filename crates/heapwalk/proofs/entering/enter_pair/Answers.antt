@@ -33,16 +33,16 @@ vertex_with-goes-requires c =
 pub push-requires : goal.push-requires
 unfolding fits
 push-requires c =
-    let same = candidate-eligible _ _ _ _ _ _ (sym c.in-Eligible.is ∙ candidate (goal.at.push-requires c).After-pair_candidate) in
+    let same = candidate-eligible _ _ _ _ _ (sym c.in-Some.is ∙ candidate (goal.at.push-requires c).After-pair_candidate) in
     let other = one-point c.requires.fact_1 in record { fact_1 = c.requires.fact_1.«open».queue; fact_2 = (λ i l. (c.requires.fact_1.«open».kept i l).named); fact_3 = (omega (arith, c.requires.fact_1.point, other), omega (arith, c.requires.fact_1.point, other)); fact_4 = one_place c.requires.fact_1 same.0 }
 
-pub returns-in-Eligible : goal.returns-in-Eligible
+pub returns-in-Some : goal.returns-in-Some
 unfolding fits
-returns-in-Eligible c =
-    let same = candidate-eligible _ _ _ _ _ _ (sym c.in-Eligible.is ∙ candidate (goal.at.returns-in-Eligible c).After-pair_candidate) in
+returns-in-Some c =
+    let same = candidate-eligible _ _ _ _ _ (sym c.in-Some.is ∙ candidate (goal.at.returns-in-Some c).After-pair_candidate) in
     entered-one c.requires.fact_1 same.0 same.1 same.2 c.push.ensures.fact_1 (c.push.ensures.fact_2 c.args.bounds.size c.requires.fact_1.«open».kept same.1 same.2)
 
-pub returns-in-Ineligible : goal.returns-in-Ineligible
+pub returns-in-None : goal.returns-in-None
 unfolding fits
-returns-in-Ineligible c =
-    entered-not c.requires.fact_1 (candidate-none _ _ _ _ (sym c.in-Ineligible.is ∙ candidate (goal.at.returns-in-Ineligible c).After-pair_candidate))
+returns-in-None c =
+    entered-not c.requires.fact_1 (candidate-none _ _ _ _ (sym c.in-None.is ∙ candidate (goal.at.returns-in-None c).After-pair_candidate))

@@ -16,4 +16,4 @@ same_parts : {a a' : Point} {b : Quadric} {k k' : Kind} → a ≡ a' → k ≡ k
 same_parts e g = rw (e, g)
 
 pub returns : goal.returns
-returns c = same_parts c.point_at.ensures (c.kind_of.ensures ∙ ap kind_of c.kind_at.ensures)
+returns c = same_parts c.point_at.ensures (c.from.ensures ∙ ap kind_of c.kind_at.ensures)

@@ -1,5 +1,5 @@
 -- `mesh::laying::join` meets its contract. The loop's invariant: the corners from `c` on are in their chains.
--- The measure is `c`. Assumes nothing.
+-- Assumes nothing.
 use native.Mathlib.Omega.{arith}
 use Rattle.mesh.proofs.JoinLaws.{join-start, join-point, join-turn, join-end}
 use Rattle.mesh.proofs.laying.join.Goals as goal

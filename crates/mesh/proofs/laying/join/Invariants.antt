@@ -1,10 +1,7 @@
 -- `mesh::laying::join` meets its contract. The loop's invariant: the corners from `c` on are in their chains.
--- The measure is `c`. Assumes nothing.
+-- Assumes nothing.
 use Rattle.mesh.proofs.JoinLaws.{Joining}
 use Rattle.mesh.proofs.laying.join.Given as goal
 
 abbrev pub invariant-loop-c : goal.invariant-loop-c
 invariant-loop-c l = Joining l.v l.f l.initial.w l.w l.c
-
-abbrev pub decreases-loop-c : goal.decreases-loop-c
-decreases-loop-c l = l.c

@@ -5,4 +5,4 @@ use Rattle.mesh.proofs.quadrics.lay_points.Goals as goal
 
 pub returns : goal.returns
 returns c =
-    c.copy_f32.ensures ∙ points-copied c.args.v c.args.points.now c.args.p.now c.requires.fact_1
+    c.copy.ensures ∙ points-copied c.args.v c.args.points.now c.args.p.now c.requires.fact_1

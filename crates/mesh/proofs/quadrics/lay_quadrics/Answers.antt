@@ -1,5 +1,5 @@
 -- `mesh::quadrics::lay_quadrics` meets its contract. The loop's invariant: each quadric is what the first `k` faces have added up to.
--- The measure is what is left of the faces. Assumes nothing.
+-- Assumes nothing.
 use native.Mathlib.Omega.{arith}
 use mathlib.Core.Path.{◌≡◌}
 use Rattle.walk.proofs.FaceLaws.{Corners, corners}

@@ -1,5 +1,5 @@
 -- `mesh::quadrics::start_quadrics` meets its contract. The loop's invariant: the quadrics of the points below `x` are zero.
--- The measure is what is left of the points. Assumes nothing.
+-- Assumes nothing.
 use native.Mathlib.Omega.{arith}
 use mathlib.Core.Path.{◌≡◌}
 use Rattle.mesh.proofs.QuadricLaws.{quadrics-none, quadrics-more}

@@ -1,12 +1,9 @@
 -- `mesh::quadrics::start_quadrics` meets its contract. The loop's invariant: the quadrics of the points below `x` are zero.
--- The measure is what is left of the points. Assumes nothing.
-use Prim.Native.Nat.{◌≤◌, ◌-◌}
+-- Assumes nothing.
+use Prim.Native.Nat.{◌≤◌}
 use Rattle.geometry.specs.Quadrics.{zero_quadric}
 use Rattle.mesh.specs.Clauses.Quadrics.{QuadricsAre}
 use Rattle.mesh.proofs.quadrics.start_quadrics.Given as goal
 
 abbrev pub invariant-loop-x : goal.invariant-loop-x
 invariant-loop-x l = (l.x ≤ l.v) × QuadricsAre l.x (λ y. zero_quadric) l.initial.q l.q
-
-abbrev pub decreases-loop-x : goal.decreases-loop-x
-decreases-loop-x l = l.v - l.x

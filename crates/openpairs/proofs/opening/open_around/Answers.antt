@@ -6,10 +6,10 @@ use Rattle.openpairs.proofs.opening.open_around.Goals as goal
 
 pub open_listed-requires : goal.open_listed-requires
 open_listed-requires c =
-    listed-ready c.list_around-count.ensures c.requires.fact_2 c.args.p.now c.args.q.now c.args.bounds.limit c.args.bounds.size
-    c.requires.fact_1 c.requires.fact_3 c.requires.fact_4 c.requires.room
+    listed-ready c.list_around-count.ensures c.requires.point c.args.p.now c.args.q.now c.args.bounds.limit c.args.bounds.size
+    c.requires.tidy c.requires.points_long c.requires.quadrics_long c.requires.room
 
 pub returns : goal.returns
 returns c =
-    added c.list_around-count.ensures c.requires.fact_2 c.args.p.now c.args.q.now c.args.bounds.limit c.args.bounds.size
+    added c.list_around-count.ensures c.requires.point c.args.p.now c.args.q.now c.args.bounds.limit c.args.bounds.size
     (omega (arith, c.requires.room)) c.open_listed.ensures

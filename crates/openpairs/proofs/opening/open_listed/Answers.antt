@@ -6,7 +6,7 @@ use native.Mathlib.Omega.{arith}
 use borrow.Author.Rules.{rules}
 use Rattle.openpairs.proofs.WaitLaws.{opening-none, opening-room, opening-point, opening-place, opening-pair, opening-refused, opening-all}
 use Rattle.openpairs.proofs.opening.open_listed.Goals as goal
-use Rattle.openpairs.proofs.opening.open_listed.Goals.{Then-is_eligible}
+use Rattle.openpairs.proofs.opening.open_listed.Goals.{Then-is_eligible, then-is_eligible, else-is_eligible}
 
 -- where the pair is eligible there is a place for it
 place : (c : Then-is_eligible) →
@@ -24,7 +24,7 @@ around_at-y-requires c =
 
 pub is_eligible-requires : goal.is_eligible-requires
 is_eligible-requires c =
-    record { fact_1 = opening-room c.loop-i.invariant.1 c.requires c.loop-i-test.true; fact_2 = c.requires.points_long; fact_3 = c.requires.quadrics_long; fact_4 = c.requires.point; fact_5 = opening-point c.loop-i.invariant.1 c.requires c.loop-i-test.true c.around_at-y.ensures }
+    record { room = opening-room c.loop-i.invariant.1 c.requires c.loop-i-test.true; points_long = c.requires.points_long; quadrics_long = c.requires.quadrics_long; named = (c.requires.point, opening-point c.loop-i.invariant.1 c.requires c.loop-i-test.true c.around_at-y.ensures) }
 
 pub set_pair-requires : goal.set_pair-requires
 set_pair-requires c =
@@ -35,18 +35,13 @@ overflow_add-now_open c =
     let few = place (goal.at.overflow_add-now_open c).Then-is_eligible in
     search rules
 
-pub loop-i-preserved-then-is_eligible : goal.loop-i-preserved-then-is_eligible
-loop-i-preserved-then-is_eligible c = (
-  search rules,
-  opening-pair c.loop-i.invariant.1 c.requires c.loop-i-test.true c.around_at-y.ensures
-      (sym c.is_eligible.ensures ∙ c.if-is_eligible.true) c.set_pair.ensures,
-)
-
 pub loop-i-preserved : goal.loop-i-preserved
 loop-i-preserved c = (
   search rules,
-  opening-refused c.loop-i.invariant.1 c.requires c.loop-i-test.true c.around_at-y.ensures
-      (sym c.is_eligible.ensures ∙ c.if-is_eligible.false),
+  elim c.if-is_eligible.branch [
+    | then-is_eligible w ↦ rw (w.w-is, w.now_open-is) (opening-pair c.loop-i.invariant.1 c.requires c.loop-i-test.true c.around_at-y.ensures (sym c.is_eligible.ensures ∙ w.if-is_eligible.true) w.set_pair.ensures)
+    | else-is_eligible w ↦ rw (w.w-is, w.now_open-is) (opening-refused c.loop-i.invariant.1 c.requires c.loop-i-test.true c.around_at-y.ensures (sym c.is_eligible.ensures ∙ w.if-is_eligible.false))
+  ],
 )
 
 pub returns : goal.returns

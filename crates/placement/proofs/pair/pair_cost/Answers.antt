@@ -2,9 +2,6 @@
 use Rattle.placement.specs.Pairs.{pair_choice, pair_place, pair_cost}
 use Rattle.placement.proofs.pair.pair_cost.Goals as goal
 
-pub pair_choice-requires : goal.pair_choice-requires
-pair_choice-requires c = tt
-
 pub returns : goal.returns
 unfolding pair_choice pair_place pair_cost
 returns c = rw c.pair_choice.ensures

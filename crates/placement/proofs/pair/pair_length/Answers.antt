@@ -2,12 +2,6 @@
 use Rattle.placement.specs.Pairs.{pair_length}
 use Rattle.placement.proofs.pair.pair_length.Goals as goal
 
-pub difference-requires : goal.difference-requires
-difference-requires c = tt
-
-pub norm-requires : goal.norm-requires
-norm-requires c = tt
-
 pub returns : goal.returns
 unfolding pair_length
 returns c = rw (c.norm.ensures, c.difference.ensures)

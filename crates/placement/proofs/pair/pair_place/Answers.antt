@@ -2,9 +2,6 @@
 use Rattle.placement.specs.Pairs.{pair_choice, pair_place}
 use Rattle.placement.proofs.pair.pair_place.Goals as goal
 
-pub pair_choice-requires : goal.pair_choice-requires
-pair_choice-requires c = tt
-
 pub returns : goal.returns
 unfolding pair_choice pair_place
 returns c = rw c.pair_choice.ensures

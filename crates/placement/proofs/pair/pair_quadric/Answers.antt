@@ -2,9 +2,6 @@
 use Rattle.placement.specs.Pairs.{pair_quadric}
 use Rattle.placement.proofs.pair.pair_quadric.Goals as goal
 
-pub sum-requires : goal.sum-requires
-sum-requires c = tt
-
 pub returns : goal.returns
 unfolding pair_quadric
 returns c = c.sum.ensures

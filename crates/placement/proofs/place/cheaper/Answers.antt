@@ -16,12 +16,6 @@ picked : (c : After-order-2) {t : Bool} →
 picked c e =
     rw (← c.order.ensures, ← c.order-2.ensures, keys-compared c.order.result c.order-2.result c.order.type_inv c.order-2.type_inv e)
 
-pub order-requires : goal.order-requires
-order-requires c = tt
-
-pub order-requires-2 : goal.order-requires-2
-order-requires-2 c = tt
-
 pub returns-then-order : goal.returns-then-order
 returns-then-order c = picked (goal.at.returns-then-order c).After-order-2 c.if-order.true
 

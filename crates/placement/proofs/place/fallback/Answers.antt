@@ -3,24 +3,6 @@ use Rattle.placement.specs.Places.{fallback}
 use Rattle.placement.proofs.PlacementLaws.{cheaper-with-error}
 use Rattle.placement.proofs.place.fallback.Goals as goal
 
-pub with_error-requires : goal.with_error-requires
-with_error-requires c = tt
-
-pub with_error-requires-2 : goal.with_error-requires-2
-with_error-requires-2 c = tt
-
-pub cheaper-ends-requires : goal.cheaper-ends-requires
-cheaper-ends-requires c = tt
-
-pub middle-requires : goal.middle-requires
-middle-requires c = tt
-
-pub with_error-requires-3 : goal.with_error-requires-3
-with_error-requires-3 c = tt
-
-pub cheaper-requires : goal.cheaper-requires
-cheaper-requires c = tt
-
 pub returns : goal.returns
 unfolding fallback
 returns c =

@@ -4,12 +4,6 @@ use Rattle.bits.specs.Root.{steps}
 use Rattle.placement.proofs.NearLaws.{near-by-tests}
 use Rattle.placement.proofs.place.is_surely_near.Goals as goal
 
-pub dot-square-requires : goal.dot-square-requires
-dot-square-requires c = tt
-
-pub dot-requires : goal.dot-requires
-dot-requires c = tt
-
 pub returns : goal.returns
 unfolding steps
 returns c = λ passed.

@@ -2,24 +2,6 @@
 use Rattle.placement.specs.Places.{stands}
 use Rattle.placement.proofs.place.may_stand.Goals as goal
 
-pub all_finite-requires : goal.all_finite-requires
-all_finite-requires c = tt
-
-pub in_size-requires : goal.in_size-requires
-in_size-requires c = tt
-
-pub in_size-requires-2 : goal.in_size-requires-2
-in_size-requires-2 c = tt
-
-pub in_size-requires-3 : goal.in_size-requires-3
-in_size-requires-3 c = tt
-
-pub difference-requires : goal.difference-requires
-difference-requires c = tt
-
-pub is_near-requires : goal.is_near-requires
-is_near-requires c = tt
-
 pub returns-then-all_finite-in_size : goal.returns-then-all_finite-in_size
 unfolding stands
 returns-then-all_finite-in_size c =

@@ -2,8 +2,8 @@
 -- Assumes nothing.
 use Rattle.ring.proofs.around.is_wanted.Goals as goal
 
-pub returns-then-rising : goal.returns-then-rising
-returns-then-rising c = rw (c.if-rising.true, c.runs.ensures)
+pub returns-in-Rising : goal.returns-in-Rising
+returns-in-Rising c = rw (c.in-Rising.is, c.runs.ensures)
 
-pub returns-else-rising : goal.returns-else-rising
-returns-else-rising c = rw c.if-rising.false
+pub returns-in-Every : goal.returns-in-Every
+returns-in-Every c = rw c.in-Every.is

@@ -18,8 +18,8 @@ mark_wanted-requires c =
 
 pub list_marked-requires : goal.list_marked-requires
 list_marked-requires c =
-    record { fact_1 = marked-ready c.requires.fact_1 (gathered (goal.at.list_marked-requires c).After-collect-count) c.args.rising c.mark_wanted.ensures; fact_2 = (gathered (goal.at.list_marked-requires c).After-collect-count).gathered.few; fact_3 = marked-near c.requires.fact_1 (gathered (goal.at.list_marked-requires c).After-collect-count) c.args.rising c.mark_wanted.ensures }
+    record { fact_1 = marked-ready c.requires.fact_1 (gathered (goal.at.list_marked-requires c).After-collect-count) c.args.which c.mark_wanted.ensures; fact_2 = (gathered (goal.at.list_marked-requires c).After-collect-count).gathered.few; fact_3 = marked-near c.requires.fact_1 (gathered (goal.at.list_marked-requires c).After-collect-count) c.args.which c.mark_wanted.ensures }
 
 pub returns : goal.returns
 returns c =
-    listed-all c.requires.fact_1 (gathered (goal.at.returns c).After-collect-count) c.args.rising c.mark_wanted.ensures c.list_marked.ensures
+    listed-all c.requires.fact_1 (gathered (goal.at.returns c).After-collect-count) c.args.which c.mark_wanted.ensures c.list_marked.ensures

@@ -22,5 +22,5 @@ mark_corner-requires-3 c =
 
 pub returns : goal.returns
 returns c =
-    marks-face (λ y. wanted c.args.rising c.args.x y c.args.face) c.args.face c.mark_corner.ensures c.mark_corner-2.ensures
+    marks-face (λ y. wanted c.args.which c.args.x y c.args.face) c.args.face c.mark_corner.ensures c.mark_corner-2.ensures
     c.mark_corner-3.ensures

@@ -1,6 +1,5 @@
 -- `ring::around::mark_wanted` meets its contract. The loop's invariant: the points that the faces passed ask for are marked.
--- The measure is how many faces are left. Assumes nothing.
-use Prim.Native.Nat.{◌≤◌, ◌-◌}
+-- Assumes nothing.
 use mathlib.Core.Bool.{◌&&◌}
 use Rattle.walk.specs.Faces.{holds}
 use Rattle.ring.specs.Clauses.Wanting.{wanted}
@@ -8,7 +7,4 @@ use Rattle.ring.proofs.WantedLaws.{Marking}
 use Rattle.ring.proofs.around.mark_wanted.Given as goal
 
 abbrev pub invariant-loop-i : goal.invariant-loop-i
-invariant-loop-i l = (l.i ≤ l.count) × Marking l.v l.f (λ u face. holds u face && wanted l.rising l.x u face) l.initial.w l.i l.w
-
-abbrev pub decreases-loop-i : goal.decreases-loop-i
-decreases-loop-i l = l.count - l.i
+invariant-loop-i l = Marking l.v l.f (λ u face. holds u face && wanted l.which l.x u face) l.initial.w l.i l.w

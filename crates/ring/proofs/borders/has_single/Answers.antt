@@ -1,30 +1,38 @@
--- `ring::borders::has_single` meets its contract. The loop's invariant: none of the first `i` faces passes.
--- The measure is what is left of the list. Assumes nothing.
-use native.Mathlib.Nat.{le_antisymm}
+-- `ring::borders::has_single` meets its contract. The loop's invariant: none of the faces so far passes.
+-- Assumes nothing.
+use Prim.Native.Nat.{◌<◌}
 use native.Mathlib.Omega.{arith}
-use mathlib.Core.Path.{sym}
+use mathlib.Core.Path.{◌≡◌, sym}
 use Rattle.lists.proofs.FrameLaws.{but-refl}
+use Rattle.ring.proofs.SlotLaws.{length-part, read-part}
 use Rattle.ring.proofs.TurnLaws.{next-slot, none_yet, none_more, one_found}
 use Rattle.ring.proofs.borders.has_single.Goals as goal
+use Rattle.ring.proofs.borders.has_single.Goals.{In-loop-k}
 
-pub loop-i-init : goal.loop-i-init
-loop-i-init c = (omega arith, none_yet _ _ _)
+-- the slot is one of the list
+inside : (c : In-loop-k) → c.loop-k.k-index < c.args.n
+inside c = omega (arith, length-part c.args.w.now c.args.base c.args.n c.requires.fact_2.within)
+
+pub loop-k-init : goal.loop-k-init
+loop-k-init c = none_yet _ _ _
 
 pub face_has_single-requires : goal.face_has_single-requires
 face_has_single-requires c =
-    let next = next-slot c.requires.fact_2 (but-refl _ _ _) c.loop-i-test.true c.slot_at-k.ensures in
-    record { fact_1 = omega arith; fact_2 = next.inside; fact_3 = next.face_proper }
+    let here = inside (goal.at.face_has_single-requires c).In-loop-k in
+    let next = next-slot c.requires.fact_2 (but-refl _ _ _) here (read-part _ _ _ c.requires.fact_2.within _ here) in
+    record { fact_1 = c.requires.fact_1; fact_2 = next.inside; fact_3 = next.face_proper }
 
 pub returns-then-face_has_single : goal.returns-then-face_has_single
 returns-then-face_has_single c =
-    one_found c.loop-i.invariant.1 c.slot_at-k.ensures c.face_has_single.ensures c.loop-i-test.true
-    c.if-face_has_single.true
+    let here = inside (goal.at.returns-then-face_has_single c).In-loop-k in
+    one_found c.loop-k.invariant (read-part _ _ _ c.requires.fact_2.within _ here) c.face_has_single.ensures here c.if-face_has_single.true
 
-pub loop-i-preserved : goal.loop-i-preserved
-loop-i-preserved c = (
-  omega arith,
-  none_more c.loop-i.invariant.1 c.slot_at-k.ensures c.face_has_single.ensures c.if-face_has_single.false,
-)
+pub loop-k-preserved : goal.loop-k-preserved
+loop-k-preserved c =
+    let here = inside (goal.at.loop-k-preserved c).In-loop-k in
+    none_more c.loop-k.invariant (read-part _ _ _ c.requires.fact_2.within _ here) c.face_has_single.ensures c.if-face_has_single.false
 
 pub returns : goal.returns
-returns c = sym (rw (le_antisymm c.loop-i.invariant.0 c.loop-i-test.false) at c.loop-i.invariant.1).none
+returns c =
+    let all : c.loop-k.k-index ≡ c.args.n = omega (arith, length-part c.args.w.now c.args.base c.args.n c.requires.fact_2.within) in
+    sym (rw all at c.loop-k.invariant).none

@@ -1,5 +1,5 @@
 -- `ring::borders::mark_borders` meets its contract. The loop's invariant: the points below `x` have their kinds.
--- The measure is what is left of the points. Assumes nothing.
+-- Assumes nothing.
 use native.Mathlib.Omega.{arith}
 use Rattle.ring.proofs.KindLaws.{kinds-none, kinds-more, kinds-all}
 use Rattle.ring.proofs.borders.mark_borders.Goals as goal
@@ -17,7 +17,7 @@ set_kind-requires c =
 pub loop-x-preserved : goal.loop-x-preserved
 loop-x-preserved c =
     kinds-more c.loop-x.invariant c.loop-x-test.true c.border_kind-kind.ensures.value c.border_kind-kind.ensures.but
-    c.kind_number.ensures c.set_kind.ensures
+    c.from.ensures c.set_kind.ensures
 
 pub shape_of-w : goal.shape_of-w
 shape_of-w c = c.loop-x.invariant.but.same_length

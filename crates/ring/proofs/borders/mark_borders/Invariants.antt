@@ -1,11 +1,7 @@
 -- `ring::borders::mark_borders` meets its contract. The loop's invariant: the points below `x` have their kinds.
--- The measure is what is left of the points. Assumes nothing.
-use Prim.Native.Nat.{◌-◌}
+-- Assumes nothing.
 use Rattle.ring.proofs.KindLaws.{Kinds}
 use Rattle.ring.proofs.borders.mark_borders.Given as goal
 
 abbrev pub invariant-loop-x : goal.invariant-loop-x
 invariant-loop-x l = Kinds l.v l.f l.preserve l.initial.w l.w l.x
-
-abbrev pub decreases-loop-x : goal.decreases-loop-x
-decreases-loop-x l = l.v - l.x

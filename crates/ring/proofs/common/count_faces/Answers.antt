@@ -1,5 +1,5 @@
 -- `ring::common::count_faces` meets its contract. The loop's invariant: the contract holds of the first `i` faces of the list.
--- The measure is what is left of the list. Assumes nothing.
+-- Assumes nothing.
 use native.Mathlib.Nat.{le_antisymm}
 use native.Mathlib.Omega.{arith}
 use Rattle.ring.proofs.TurnLaws.{Next, next-slot}
@@ -9,10 +9,10 @@ use Rattle.ring.proofs.common.count_faces.Goals.{After-slot_at-k}
 
 next : (c : After-slot_at-k) →
     Next c.args.v c.args.f c.args.w.now c.loop-i.w c.args.base c.loop-i.i c.slot_at-k.result
-next c = next-slot c.requires.fact_2 c.loop-i.invariant.1.remarked.but c.loop-i-test.true c.slot_at-k.ensures
+next c = next-slot c.requires.fact_2 c.loop-i.invariant.remarked.but c.loop-i-test.true c.slot_at-k.ensures
 
 pub loop-i-init : goal.loop-i-init
-loop-i-init c = (omega arith, counted_none _ _)
+loop-i-init c = counted_none _ _
 
 -- ---- the needs
 pub count_face-r-requires : goal.count_face-r-requires
@@ -20,11 +20,11 @@ count_face-r-requires c = record { fact_1 = omega arith; fact_2 = (next (goal.at
 
 pub overflow_add-r : goal.overflow_add-r
 overflow_add-r c =
-    omega (arith, c.requires.fact_1, counted-few c.loop-i.invariant.1, counted-few c.count_face-r.ensures)
+    omega (arith, c.requires.fact_1, counted-few c.loop-i.invariant, counted-few c.count_face-r.ensures)
 
 pub loop-i-preserved : goal.loop-i-preserved
 loop-i-preserved c =
-    (omega arith, counted-more (next (goal.at.loop-i-preserved c).After-slot_at-k) c.loop-i.invariant.1 c.count_face-r.ensures)
+    counted-more (next (goal.at.loop-i-preserved c).After-slot_at-k) c.loop-i.invariant c.count_face-r.ensures
 
 pub returns : goal.returns
-returns c = rw (le_antisymm c.loop-i.invariant.0 c.loop-i-test.false) at c.loop-i.invariant.1
+returns c = rw (le_antisymm c.loop-i.auto.i-end c.loop-i-test.false) at c.loop-i.invariant

@@ -1,12 +1,8 @@
 -- `ring::common::count_faces` meets its contract. The loop's invariant: the contract holds of the first `i` faces of the list.
--- The measure is what is left of the list. Assumes nothing.
-use Prim.Native.Nat.{◌≤◌, ◌-◌}
+-- Assumes nothing.
 use Rattle.ring.specs.Clauses.Counting.{Counted}
 use Rattle.ring.specs.Clauses.Marking.{held_in}
 use Rattle.ring.proofs.common.count_faces.Given as goal
 
 abbrev pub invariant-loop-i : goal.invariant-loop-i
-invariant-loop-i l = (l.i ≤ l.n) × Counted l.v l.f l.keep l.remove (held_in l.initial.w l.base l.i) l.initial.w l.w l.r
-
-abbrev pub decreases-loop-i : goal.decreases-loop-i
-decreases-loop-i l = l.n - l.i
+invariant-loop-i l = Counted l.v l.f l.keep l.remove (held_in l.initial.w l.base l.i) l.initial.w l.w l.r

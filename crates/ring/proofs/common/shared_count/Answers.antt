@@ -1,31 +1,36 @@
--- `ring::common::shared_count` meets its contract. The loop's invariant: `r` of the first `i` faces hold y.
--- The measure is what is left of the list. Assumes nothing.
-use native.Mathlib.Nat.{le_antisymm}
+-- `ring::common::shared_count` meets its contract. The loop's invariant: `r` of the faces so far hold y.
+-- Assumes nothing.
+use Prim.Native.Nat.{◌<◌}
 use native.Mathlib.Omega.{arith}
-use mathlib.Core.Path.{ap, ◌∙◌}
+use mathlib.Core.Path.{◌≡◌, ap, ◌∙◌}
 use Rattle.walk.specs.Faces.{holds}
-use Rattle.ring.proofs.SlotLaws.{slot_small}
+use Rattle.ring.proofs.SlotLaws.{length-part, read-part, slot_small}
 use Rattle.ring.proofs.TurnLaws.{tally-none, tally-few, tally-more}
 use Rattle.ring.proofs.common.shared_count.Goals as goal
-use Rattle.ring.proofs.common.shared_count.Goals.{then-face_holds, else-face_holds}
+use Rattle.ring.proofs.common.shared_count.Goals.{In-loop-k, then-holds, else-holds}
 
-pub loop-i-init : goal.loop-i-init
-loop-i-init c = (omega arith, tally-none _ _ _)
+-- the slot is one of the list
+inside : (c : In-loop-k) → c.loop-k.k-index < c.args.n
+inside c = omega (arith, length-part c.args.w.now c.args.base c.args.n c.requires.fact_2)
+
+pub loop-k-init : goal.loop-k-init
+loop-k-init c = tally-none _ _ _
 
 pub face_in-requires : goal.face_in-requires
 face_in-requires c =
-    omega (arith, slot_small c.args.f c.args.w.now c.args.base c.args.n c.requires.fact_3 c.loop-i.i c.loop-i-test.true)
+    let here = inside (goal.at.face_in-requires c).In-loop-k in
+    omega (arith, read-part _ _ _ c.requires.fact_2 _ here, slot_small c.args.f c.args.w.now c.args.base c.args.n c.requires.fact_3 c.loop-k.k-index here)
 
 pub overflow_add-r : goal.overflow_add-r
-overflow_add-r c = omega (arith, tally-few c.loop-i.invariant.1)
+overflow_add-r c = omega (arith, tally-few c.loop-k.invariant)
 
-pub loop-i-preserved : goal.loop-i-preserved
-loop-i-preserved c =
-    let answer = c.face_holds.ensures ∙ ap (holds c.args.y) c.face_in.ensures in (
-      omega arith,
-      tally-more c.loop-i.invariant.1 c.slot_at-k.ensures answer
-          (elim c.if-face_holds.branch [ then-face_holds w ↦ rw w.if-face_holds.true w.r-is | else-face_holds w ↦ rw w.if-face_holds.false (omega arith) ]),
-    )
+pub loop-k-preserved : goal.loop-k-preserved
+loop-k-preserved c =
+    let here = inside (goal.at.loop-k-preserved c).In-loop-k in
+    tally-more c.loop-k.invariant (read-part _ _ _ c.requires.fact_2 _ here) (c.holds.ensures ∙ ap (holds c.args.y) c.face_in.ensures)
+    (elim c.if-holds.branch [ then-holds w ↦ rw w.if-holds.true w.r-is | else-holds w ↦ rw w.if-holds.false (omega arith) ])
 
 pub returns : goal.returns
-returns c = (rw (le_antisymm c.loop-i.invariant.0 c.loop-i-test.false) at c.loop-i.invariant.1).total
+returns c =
+    let all : c.loop-k.k-index ≡ c.args.n = omega (arith, length-part c.args.w.now c.args.base c.args.n c.requires.fact_2) in
+    (rw all at c.loop-k.invariant).total

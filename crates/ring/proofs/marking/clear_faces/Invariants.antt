@@ -1,11 +1,7 @@
 -- `ring::marking::clear_faces` meets its contract. The loop's invariant: the contract holds of the first `i` faces of the list.
--- The measure is what is left of the list. Assumes nothing.
-use Prim.Native.Nat.{◌≤◌, ◌-◌}
+-- Assumes nothing.
 use Rattle.mesh.specs.Clauses.Around.{Cleared}
 use Rattle.ring.proofs.marking.clear_faces.Given as goal
 
 abbrev pub invariant-loop-i : goal.invariant-loop-i
-invariant-loop-i l = (l.i ≤ l.n) × Cleared l.v l.f l.initial.w l.base l.i l.w
-
-abbrev pub decreases-loop-i : goal.decreases-loop-i
-decreases-loop-i l = l.n - l.i
+invariant-loop-i l = Cleared l.v l.f l.initial.w l.base l.i l.w

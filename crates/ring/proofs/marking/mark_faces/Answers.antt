@@ -1,5 +1,5 @@
 -- `ring::marking::mark_faces` meets its contract. The loop's invariant: the contract holds of the first `i` faces of the list.
--- The measure is what is left of the list. Assumes nothing.
+-- Assumes nothing.
 use native.Mathlib.Nat.{le_antisymm}
 use native.Mathlib.Omega.{arith}
 use Rattle.ring.proofs.TurnLaws.{Next, next-slot, marked-none, marked_more, marked-few}
@@ -8,19 +8,19 @@ use Rattle.ring.proofs.marking.mark_faces.Goals.{After-slot_at-k}
 
 next : (c : After-slot_at-k) →
     Next c.args.v c.args.f c.args.w.now c.loop-i.w c.args.base c.loop-i.i c.slot_at-k.result
-next c = next-slot c.requires.fact_3 c.loop-i.invariant.1.but c.loop-i-test.true c.slot_at-k.ensures
+next c = next-slot c.requires.fact_3 c.loop-i.invariant.but c.loop-i-test.true c.slot_at-k.ensures
 
 pub loop-i-init : goal.loop-i-init
-loop-i-init c = (omega arith, marked-none _ _ _ _)
+loop-i-init c = marked-none _ _ _ _
 
 -- ---- the needs
 pub mark_face-requires : goal.mark_face-requires
 mark_face-requires c =
-    record { fact_1 = omega arith; fact_2 = (next (goal.at.mark_face-requires c).After-slot_at-k).inside; fact_3 = (next (goal.at.mark_face-requires c).After-slot_at-k).face_proper; fact_4 = marked-few c.requires.fact_2 (omega arith) c.loop-i.invariant.1 }
+    record { fact_1 = omega arith; fact_2 = (next (goal.at.mark_face-requires c).After-slot_at-k).inside; fact_3 = (next (goal.at.mark_face-requires c).After-slot_at-k).face_proper; fact_4 = marked-few c.requires.fact_2 (omega arith) c.loop-i.invariant }
 
 pub loop-i-preserved : goal.loop-i-preserved
 loop-i-preserved c =
-    (omega arith, marked_more (next (goal.at.loop-i-preserved c).After-slot_at-k) c.loop-i.invariant.1 c.mark_face.ensures)
+    marked_more (next (goal.at.loop-i-preserved c).After-slot_at-k) c.loop-i.invariant c.mark_face.ensures
 
 pub returns : goal.returns
-returns c = rw (le_antisymm c.loop-i.invariant.0 c.loop-i-test.false) at c.loop-i.invariant.1
+returns c = rw (le_antisymm c.loop-i.auto.i-end c.loop-i-test.false) at c.loop-i.invariant
