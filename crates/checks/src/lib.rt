@@ -1,5 +1,5 @@
 // The checks of an input, in their order: answer numbers 1 to 9, 12 and 24.
-// Tests are joined by `|` and `&`: each looks at all its parts, none of which can fail, and answers for NaN too.
+// Tests of sizes, floats and faces are joined by `|` and `&`: each looks at all its parts, none of which can fail, and answers for NaN too.
 #![tactic(auto)]
 
 ghost use Rattle.std.specs.Prelude.{◌≡◌, ◌+◌, ◌*◌, ◌/◌, ◌≤◌, ◌<◌, cond, length, Ok, Err, position};

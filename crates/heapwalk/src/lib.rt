@@ -16,7 +16,7 @@ ghost use Rattle.memory.specs.Layout.{costs_to, places_to};
 
 mod entering;
 
-use memory::Entry;
+use memory::{Entry, Extent};
 use placement::{Bounds, Fold};
 use plainwalk::{Step, Stepped, Walked};
 use ring::Neighbours;
@@ -35,28 +35,26 @@ fn try_pair(
     w: &mut [u32],
     p: &mut [f32],
     q: &mut [f64],
-    v: usize,
-    f: usize,
+    extent: Extent,
     entries: usize,
     live: usize,
     fold: Fold,
     bounds: Bounds,
 ) -> Paced
-    requires { PairHolds v f w.old p.old q.old entries live bounds.size fold.keep fold.remove fold.place }
-    ensures { PairAnswer v f w.old p.old q.old entries fold.keep fold.remove bounds.limit bounds.size (tried (rules_of bounds.limit bounds.size) (mesh_of v f w.old p.old q.old) (pair_of fold.keep fold.remove)) w.new p.new q.new result.stepped }
+    requires { PairHolds extent.v extent.f w.old p.old q.old entries live bounds.size fold.keep fold.remove fold.place }
+    ensures { PairAnswer extent.v extent.f w.old p.old q.old entries fold.keep fold.remove bounds.limit bounds.size (tried (rules_of bounds.limit bounds.size) (mesh_of extent.v extent.f w.old p.old q.old) (pair_of fold.keep fold.remove)) w.new p.new q.new result.stepped }
 {
     let keep = fold.keep;
     let remove = fold.remove;
-    match folding::try_fold(w, p, q, v, f, fold) {
+    match folding::try_fold(w, p, q, extent, fold) {
         Ok(gone) => {
-            queue::bump(w, v, f, keep as usize);
-            queue::bump(w, v, f, remove as usize);
+            queue::bump(w, extent, keep as usize);
+            queue::bump(w, extent, remove as usize);
             let more = entering::enter_around(
                 w,
                 p,
                 q,
-                v,
-                f,
+                extent,
                 entries,
                 Neighbours::Every,
                 keep,
@@ -102,21 +100,20 @@ pub fn heap_step(
     w: &mut [u32],
     p: &mut [f32],
     q: &mut [f64],
-    v: usize,
-    f: usize,
+    extent: Extent,
     entries: usize,
     live: usize,
     target: usize,
     bounds: Bounds,
     thin: bool,
 ) -> Paced
-    requires { HeapHolds v f w.old p.old q.old entries live bounds.size }
-    ensures { HeapStepDone v f w.old p.old q.old entries target bounds.limit bounds.size w.new p.new q.new result.stepped }
+    requires { HeapHolds extent.v extent.f w.old p.old q.old entries live bounds.size }
+    ensures { HeapStepDone extent.v extent.f w.old p.old q.old entries target bounds.limit bounds.size w.new p.new q.new result.stepped }
 {
     if live <= target {
         return ended(entries, live);
     }
-    let Some((top, left)) = queue::take_first(w, p, q, v, f, entries, thin) else {
+    let Some((top, left)) = queue::take_first(w, p, q, extent, entries, thin) else {
         return ended(0, live);
     };
     let Entry { pair, place, .. } = top;
@@ -125,7 +122,7 @@ pub fn heap_step(
         remove: pair.remove,
         place,
     };
-    try_pair(w, p, q, v, f, left, live, fold, bounds)
+    try_pair(w, p, q, extent, left, live, fold, bounds)
 }
 
 // How many entries may be put in before old ones are thrown out again, after a step. Where they were thrown out it is a third of those left, so that what a
@@ -144,15 +141,14 @@ fn walk_on(
     w: &mut [u32],
     p: &mut [f32],
     q: &mut [f64],
-    v: usize,
-    f: usize,
+    extent: Extent,
     entries: usize,
     live: usize,
     target: usize,
     bounds: Bounds,
 ) -> Walked
-    requires { HeapHolds v f w.old p.old q.old entries live bounds.size }
-    ensures { ChainFrom v f target bounds.limit bounds.size (moment w.old p.old q.old entries live) w.new p.new q.new result }
+    requires { HeapHolds extent.v extent.f w.old p.old q.old entries live bounds.size }
+    ensures { ChainFrom extent.v extent.f target bounds.limit bounds.size (moment w.old p.old q.old entries live) w.new p.new q.new result }
 {
     let mut queued = entries;
     let mut faces_live = live;
@@ -161,7 +157,7 @@ fn walk_on(
     let mut room = entries / 3;
     loop {
         let thin = room == 0;
-        let paced = heap_step(w, p, q, v, f, queued, faces_live, target, bounds, thin);
+        let paced = heap_step(w, p, q, extent, queued, faces_live, target, bounds, thin);
         let stepped = paced.stepped;
         queued = stepped.open;
         room = room_next(thin, room, paced.pushed, queued);
@@ -169,7 +165,7 @@ fn walk_on(
         let step = stepped.step;
         match step {
             Step::Folded(pair) => {
-                memory::note_fold(w, v, f, folds, pair);
+                memory::note_fold(w, extent, folds, pair);
                 folds += 1;
             }
             Step::Closed(_, reason) => {
@@ -191,17 +187,16 @@ pub fn heap_walk(
     w: &mut [u32],
     p: &mut [f32],
     q: &mut [f64],
-    v: usize,
-    f: usize,
+    extent: Extent,
     target: usize,
     bounds: Bounds,
 ) -> Walked
-    requires fact_1 { Tidy v f w.old }
-    requires fact_2 { length (live_faces f w.old) ≡ f }
-    requires fact_3 { places_to v f ≤ length p.old }
-    requires fact_4 { costs_to v f ≤ length q.old }
-    ensures { HeapWalked v f target bounds.limit bounds.size w.old p.old q.old w.new p.new q.new result }
+    requires fact_1 { Tidy extent.v extent.f w.old }
+    requires fact_2 { length (live_faces extent.f w.old) ≡ extent.f }
+    requires fact_3 { places_to extent.v extent.f ≤ length p.old }
+    requires fact_4 { costs_to extent.v extent.f ≤ length q.old }
+    ensures { HeapWalked extent.v extent.f target bounds.limit bounds.size w.old p.old q.old w.new p.new q.new result }
 {
-    let entries = entering::enter_start(w, p, q, v, f, bounds);
-    walk_on(w, p, q, v, f, entries, f, target, bounds)
+    let entries = entering::enter_start(w, p, q, extent, bounds);
+    walk_on(w, p, q, extent, entries, extent.f, target, bounds)
 }

@@ -4,6 +4,7 @@ ghost use Rattle.memory.specs.Memory.{corner, live, lives, next, first, kind, ma
 ghost use Rattle.walk.specs.Faces.{face_at};
 ghost use Rattle.memory.specs.Layout.{firsts_from, kinds_from, lives_from, marks_from, nexts_from, near_from, around_from};
 
+use crate::layout::Extent;
 use walk::Face;
 
 // The point at a corner.
@@ -47,19 +48,19 @@ pub fn first_at(w: &[u32], f: usize, x: usize) -> u32
 }
 
 // What a point is, by number.
-pub fn kind_at(w: &[u32], v: usize, f: usize, x: usize) -> u32
-    requires { kinds_from v f + x < length w.now }
-    ensures { result ≡ kind v f w.now x }
+pub fn kind_at(w: &[u32], extent: Extent, x: usize) -> u32
+    requires { kinds_from extent.v extent.f + x < length w.now }
+    ensures { result ≡ kind extent.v extent.f w.now x }
 {
-    w[7 * f + v + x]
+    w[7 * extent.f + extent.v + x]
 }
 
 // The mark at a point.
-pub fn mark_at(w: &[u32], v: usize, f: usize, x: usize) -> u32
-    requires { marks_from v f + x < length w.now }
-    ensures { result ≡ mark v f w.now x }
+pub fn mark_at(w: &[u32], extent: Extent, x: usize) -> u32
+    requires { marks_from extent.v extent.f + x < length w.now }
+    ensures { result ≡ mark extent.v extent.f w.now x }
 {
-    w[7 * f + 2 * v + x]
+    w[7 * extent.f + 2 * extent.v + x]
 }
 
 // The face in a slot.
@@ -107,41 +108,41 @@ pub fn set_first(w: &mut [u32], f: usize, x: usize, value: u32)
 }
 
 // Says what a point is.
-pub fn set_kind(w: &mut [u32], v: usize, f: usize, x: usize, value: u32)
-    requires { kinds_from v f + x < length w.old }
-    ensures { w.new ≡ set w.old (kinds_from v f + x) value }
+pub fn set_kind(w: &mut [u32], extent: Extent, x: usize, value: u32)
+    requires { kinds_from extent.v extent.f + x < length w.old }
+    ensures { w.new ≡ set w.old (kinds_from extent.v extent.f + x) value }
 {
-    w[7 * f + v + x] = value;
+    w[7 * extent.f + extent.v + x] = value;
 }
 
 // Marks a point.
-pub fn set_mark(w: &mut [u32], v: usize, f: usize, x: usize, value: u32)
-    requires { marks_from v f + x < length w.old }
-    ensures { w.new ≡ set w.old (marks_from v f + x) value }
+pub fn set_mark(w: &mut [u32], extent: Extent, x: usize, value: u32)
+    requires { marks_from extent.v extent.f + x < length w.old }
+    ensures { w.new ≡ set w.old (marks_from extent.v extent.f + x) value }
 {
-    w[7 * f + 2 * v + x] = value;
+    w[7 * extent.f + 2 * extent.v + x] = value;
 }
 
 // The slot in a place of the list of the faces around a point.
-pub fn near_at(w: &[u32], v: usize, f: usize, i: usize) -> u32
-    requires { near_from v f + i < length w.now }
-    ensures { result ≡ near_at v f w.now i }
+pub fn near_at(w: &[u32], extent: Extent, i: usize) -> u32
+    requires { near_from extent.v extent.f + i < length w.now }
+    ensures { result ≡ near_at extent.v extent.f w.now i }
 {
-    w[19 * f + 4 * v + i]
+    w[19 * extent.f + 4 * extent.v + i]
 }
 
 // The point in a place of the list of the points around a point.
-pub fn around_at(w: &[u32], v: usize, f: usize, i: usize) -> u32
-    requires { around_from v f + i < length w.now }
-    ensures { result ≡ get_or w.now (around_from v f + i) 0 }
+pub fn around_at(w: &[u32], extent: Extent, i: usize) -> u32
+    requires { around_from extent.v extent.f + i < length w.now }
+    ensures { result ≡ get_or w.now (around_from extent.v extent.f + i) 0 }
 {
-    w[21 * f + 4 * v + i]
+    w[21 * extent.f + 4 * extent.v + i]
 }
 
 // Puts a point into a place of the list of the points around a point.
-pub fn set_around(w: &mut [u32], v: usize, f: usize, i: usize, value: u32)
-    requires { around_from v f + i < length w.old }
-    ensures { w.new ≡ set w.old (around_from v f + i) value }
+pub fn set_around(w: &mut [u32], extent: Extent, i: usize, value: u32)
+    requires { around_from extent.v extent.f + i < length w.old }
+    ensures { w.new ≡ set w.old (around_from extent.v extent.f + i) value }
 {
-    w[21 * f + 4 * v + i] = value;
+    w[21 * extent.f + 4 * extent.v + i] = value;
 }

@@ -2,6 +2,13 @@
 ghost use Rattle.std.specs.Prelude.{◌≡◌, ◌^◌, ◌<◌};
 ghost use Rattle.memory.specs.Layout.{lives_from, firsts_from, stamps_from, near_from, far_from, around_from, folds_from};
 
+// How large an input is: its V points and F faces, by which each part of the memory has its place.
+#[derive(Clone, Copy)]
+pub struct Extent {
+    pub v: usize,
+    pub f: usize,
+}
+
 // Whether each face is there.
 pub fn lives_from(f: usize) -> usize
     requires { lives_from f < 2 ^ 64 }
@@ -19,41 +26,41 @@ pub fn firsts_from(f: usize) -> usize
 }
 
 // The stamps of the points.
-pub fn stamps_from(v: usize, f: usize) -> usize
-    requires { stamps_from v f < 2 ^ 64 }
-    ensures { result ≡ stamps_from v f }
+pub fn stamps_from(extent: Extent) -> usize
+    requires { stamps_from extent.v extent.f < 2 ^ 64 }
+    ensures { result ≡ stamps_from extent.v extent.f }
 {
-    7 * f + 3 * v
+    7 * extent.f + 3 * extent.v
 }
 
 // The faces around a point, or around keep.
-pub fn near_from(v: usize, f: usize) -> usize
-    requires { near_from v f < 2 ^ 64 }
-    ensures { result ≡ near_from v f }
+pub fn near_from(extent: Extent) -> usize
+    requires { near_from extent.v extent.f < 2 ^ 64 }
+    ensures { result ≡ near_from extent.v extent.f }
 {
-    19 * f + 4 * v
+    19 * extent.f + 4 * extent.v
 }
 
 // The faces around remove.
-pub fn far_from(v: usize, f: usize) -> usize
-    requires { far_from v f < 2 ^ 64 }
-    ensures { result ≡ far_from v f }
+pub fn far_from(extent: Extent) -> usize
+    requires { far_from extent.v extent.f < 2 ^ 64 }
+    ensures { result ≡ far_from extent.v extent.f }
 {
-    20 * f + 4 * v
+    20 * extent.f + 4 * extent.v
 }
 
 // The points around a point.
-pub fn around_from(v: usize, f: usize) -> usize
-    requires { around_from v f < 2 ^ 64 }
-    ensures { result ≡ around_from v f }
+pub fn around_from(extent: Extent) -> usize
+    requires { around_from extent.v extent.f < 2 ^ 64 }
+    ensures { result ≡ around_from extent.v extent.f }
 {
-    21 * f + 4 * v
+    21 * extent.f + 4 * extent.v
 }
 
 // The folds that are written down.
-pub fn folds_from(v: usize, f: usize) -> usize
-    requires { folds_from v f < 2 ^ 64 }
-    ensures { result ≡ folds_from v f }
+pub fn folds_from(extent: Extent) -> usize
+    requires { folds_from extent.v extent.f < 2 ^ 64 }
+    ensures { result ≡ folds_from extent.v extent.f }
 {
-    21 * f + 5 * v
+    21 * extent.f + 5 * extent.v
 }

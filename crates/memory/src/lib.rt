@@ -15,6 +15,6 @@ pub use entries::{
     set_stamp, stamp_at,
 };
 pub use layout::{
-    around_from, far_from, firsts_from, folds_from, lives_from, near_from, stamps_from,
+    Extent, around_from, far_from, firsts_from, folds_from, lives_from, near_from, stamps_from,
 };
 pub use points::{point_at, quadric_at, set_point, set_quadric, vertex_at, vertex_with};

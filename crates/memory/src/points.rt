@@ -5,6 +5,7 @@ ghost use Rattle.meaning.specs.Input.{point_at};
 ghost use Rattle.memory.specs.Points.{quadric_at, vertex_with, vertex_at, with_point, with_quadric};
 ghost use Rattle.memory.specs.Layout.{kinds_from};
 
+use crate::layout::Extent;
 use geometry::{Point, Quadric};
 use placement::Kind;
 use placement::pair::Vertex;
@@ -42,26 +43,26 @@ pub fn quadric_at(q: &[f64], x: usize) -> Quadric
 }
 
 // All that a point carries, where its quadric is at hand.
-pub fn vertex_with(w: &[u32], p: &[f32], v: usize, f: usize, x: usize, quadric: Quadric) -> Vertex
-    requires fact_1 { kinds_from v f + x < length w.now }
+pub fn vertex_with(w: &[u32], p: &[f32], extent: Extent, x: usize, quadric: Quadric) -> Vertex
+    requires fact_1 { kinds_from extent.v extent.f + x < length w.now }
     requires fact_2 { 3 * x + 2 < length p.now }
-    ensures { result ≡ vertex_with v f w.now p.now x quadric }
+    ensures { result ≡ vertex_with extent.v extent.f w.now p.now x quadric }
 {
     Vertex {
         point: point_at(p, x),
         quadric,
-        kind: Kind::from(crate::cells::kind_at(w, v, f, x)),
+        kind: Kind::from(crate::cells::kind_at(w, extent, x)),
     }
 }
 
 // All that a point carries.
-pub fn vertex_at(w: &[u32], p: &[f32], q: &[f64], v: usize, f: usize, x: usize) -> Vertex
-    requires fact_1 { kinds_from v f + x < length w.now }
+pub fn vertex_at(w: &[u32], p: &[f32], q: &[f64], extent: Extent, x: usize) -> Vertex
+    requires fact_1 { kinds_from extent.v extent.f + x < length w.now }
     requires fact_2 { 3 * x + 2 < length p.now }
     requires fact_3 { 10 * x + 9 < length q.now }
-    ensures { result ≡ vertex_at v f w.now p.now q.now x }
+    ensures { result ≡ vertex_at extent.v extent.f w.now p.now q.now x }
 {
-    vertex_with(w, p, v, f, x, quadric_at(q, x))
+    vertex_with(w, p, extent, x, quadric_at(q, x))
 }
 
 // Puts a point at its place.

@@ -7,32 +7,32 @@ ghost use Rattle.mesh.specs.Clauses.Laying.{Joined};
 ghost use Rattle.mesh.specs.Clauses.Laid.{Laid};
 
 use crate::links::push_corner;
-use memory::corner_at;
+use memory::{Extent, corner_at};
 
 // Puts every corner into the chain of its point, where all chains are empty. It goes from the last corner to the first, so
 // that a chain runs in face order.
-fn join(w: &mut [u32], v: usize, f: usize)
-    requires fact_1 { Room v f w.old }
-    requires fact_2 { ((c : ℕ) → c < 3 * f → corner w.old c < v) }
-    requires fact_3 { ((x : ℕ) → x < v → first f w.old x ≡ 0) }
-    ensures { Joined v f w.old w.new }
+fn join(w: &mut [u32], extent: Extent)
+    requires fact_1 { Room extent.v extent.f w.old }
+    requires fact_2 { ((c : ℕ) → c < 3 * extent.f → corner w.old c < extent.v) }
+    requires fact_3 { ((x : ℕ) → x < extent.v → first extent.f w.old x ≡ 0) }
+    ensures { Joined extent.v extent.f w.old w.new }
 {
-    for c in (0..3 * f).rev() {
+    for c in (0..3 * extent.f).rev() {
         let x = corner_at(w, c) as usize;
-        push_corner(w, f, c, x);
+        push_corner(w, extent.f, c, x);
     }
 }
 
 // Lays a mesh out: its faces, all live, each listed at its three points, and no mark. First links, kinds and marks lie side by
 // side, so one stretch of zeros clears them.
-pub fn lay_faces(faces: &[u32], w: &mut [u32], v: usize, f: usize)
-    requires fact_1 { Room v f w.old }
-    requires fact_2 { length faces.now ≡ 3 * f }
-    requires fact_3 { every (proper v) (faces_of f faces.now) ≡ true }
-    ensures { Laid v f faces.now w.old w.new }
+pub fn lay_faces(faces: &[u32], w: &mut [u32], extent: Extent)
+    requires fact_1 { Room extent.v extent.f w.old }
+    requires fact_2 { length faces.now ≡ 3 * extent.f }
+    requires fact_3 { every (proper extent.v) (faces_of extent.f faces.now) ≡ true }
+    ensures { Laid extent.v extent.f faces.now w.old w.new }
 {
     lists::copy(faces, w);
-    lists::fill(w, memory::lives_from(f), f, 1);
-    lists::fill(w, memory::firsts_from(f), 3 * v, 0);
-    join(w, v, f);
+    lists::fill(w, memory::lives_from(extent.f), extent.f, 1);
+    lists::fill(w, memory::firsts_from(extent.f), 3 * extent.v, 0);
+    join(w, extent);
 }

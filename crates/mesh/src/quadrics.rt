@@ -9,7 +9,7 @@ ghost use Rattle.meaning.specs.Start.{face_quadric, gathered};
 ghost use Rattle.mesh.specs.Clauses.Quadrics.{with_sum, with_face, QuadricsAre};
 
 use geometry::Quadric;
-use memory::{point_at, quadric_at, set_quadric};
+use memory::{Extent, point_at, quadric_at, set_quadric};
 use walk::Face;
 
 // The places of the v points.
@@ -66,16 +66,16 @@ fn add_face(q: &mut [f64], face: Face, value: Quadric)
 }
 
 // The quadrics of the v points: each starts at zero, and the faces add theirs in face order.
-pub fn lay_quadrics(w: &[u32], p: &[f32], q: &mut [f64], v: usize, f: usize)
-    requires fact_1 { Room v f w.now }
-    requires fact_2 { ((k : ℕ) → k < f → proper v (face_at w.now k) ≡ true) }
-    requires fact_3 { 3 * v ≤ length p.now }
-    requires fact_4 { 10 * v ≤ length q.old }
-    ensures { QuadricsAre v (λ x. gathered p.now x zero_quadric (map (face_at w.now) (below f))) q.old q.new }
+pub fn lay_quadrics(w: &[u32], p: &[f32], q: &mut [f64], extent: Extent)
+    requires fact_1 { Room extent.v extent.f w.now }
+    requires fact_2 { ((k : ℕ) → k < extent.f → proper extent.v (face_at w.now k) ≡ true) }
+    requires fact_3 { 3 * extent.v ≤ length p.now }
+    requires fact_4 { 10 * extent.v ≤ length q.old }
+    ensures { QuadricsAre extent.v (λ x. gathered p.now x zero_quadric (map (face_at w.now) (below extent.f))) q.old q.new }
 {
-    start_quadrics(q, v);
-    for k in 0..f {
-        let face = memory::face_in(w, f, k);
+    start_quadrics(q, extent.v);
+    for k in 0..extent.f {
+        let face = memory::face_in(w, extent.f, k);
         add_face(q, face, face_quadric(p, face));
     }
 }

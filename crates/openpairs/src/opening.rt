@@ -13,7 +13,7 @@ ghost use Rattle.openpairs.specs.Clauses.Edges.{opened_around};
 ghost use Rattle.openpairs.specs.Clauses.Waiting.{fits, waiting, PairsReady};
 
 use crate::pairs::ends_at;
-use memory::set_pair;
+use memory::{Extent, set_pair};
 use placement::Bounds;
 use placement::pair::pair_eligible;
 use ring::Neighbours;
@@ -23,19 +23,18 @@ fn is_eligible(
     w: &[u32],
     p: &[f32],
     q: &[f64],
-    v: usize,
-    f: usize,
+    extent: Extent,
     x: u32,
     y: u32,
     bounds: Bounds,
 ) -> bool
-    requires room { Room v f w.now }
-    requires points_long { 3 * v ≤ length p.now }
-    requires quadrics_long { 10 * v ≤ length q.now }
-    requires named { (x < v) × (y < v) }
-    ensures { result ≡ fits v f w.now p.now q.now bounds.limit bounds.size x y }
+    requires room { Room extent.v extent.f w.now }
+    requires points_long { 3 * extent.v ≤ length p.now }
+    requires quadrics_long { 10 * extent.v ≤ length q.now }
+    requires named { (x < extent.v) × (y < extent.v) }
+    ensures { result ≡ fits extent.v extent.f w.now p.now q.now bounds.limit bounds.size x y }
 {
-    let (stays, goes) = ends_at(w, p, q, v, f, x, y);
+    let (stays, goes) = ends_at(w, p, q, extent, x, y);
     let limit = bounds.limit;
     pair_eligible(stays, goes, limit, bounds.size)
 }
@@ -45,21 +44,20 @@ fn open_listed(
     w: &mut [u32],
     p: &[f32],
     q: &[f64],
-    v: usize,
-    f: usize,
+    extent: Extent,
     n: usize,
     x: u32,
     count: usize,
     bounds: Bounds,
 ) -> usize
-    requires { PairsReady v f w.old p.now q.now bounds.limit bounds.size x count n }
-    ensures { Added v f w.old n (waiting v f w.old p.now q.now bounds.limit bounds.size x count) w.new result }
+    requires { PairsReady extent.v extent.f w.old p.now q.now bounds.limit bounds.size x count n }
+    ensures { Added extent.v extent.f w.old n (waiting extent.v extent.f w.old p.now q.now bounds.limit bounds.size x count) w.new result }
 {
     let mut now_open = n;
     for i in 0..count {
-        let y = memory::around_at(w, v, f, i);
-        if is_eligible(w, p, q, v, f, x, y, bounds) {
-            set_pair(w, v, f, now_open, x, y);
+        let y = memory::around_at(w, extent, i);
+        if is_eligible(w, p, q, extent, x, y, bounds) {
+            set_pair(w, extent, now_open, x, y);
             now_open += 1;
         }
     }
@@ -71,22 +69,21 @@ fn open_around(
     w: &mut [u32],
     p: &[f32],
     q: &[f64],
-    v: usize,
-    f: usize,
+    extent: Extent,
     n: usize,
     which: Neighbours,
     x: u32,
     bounds: Bounds,
 ) -> usize
-    requires tidy { Tidy v f w.old }
-    requires point { x < v }
-    requires points_long { 3 * v ≤ length p.now }
-    requires quadrics_long { 10 * v ≤ length q.now }
-    requires room { n + length (opened_around (rules_of bounds.limit bounds.size) (mesh_of v f w.old p.now q.now) which x) ≤ 3 * f }
-    ensures { Added v f w.old n (opened_around (rules_of bounds.limit bounds.size) (mesh_of v f w.old p.now q.now) which x) w.new result }
+    requires tidy { Tidy extent.v extent.f w.old }
+    requires point { x < extent.v }
+    requires points_long { 3 * extent.v ≤ length p.now }
+    requires quadrics_long { 10 * extent.v ≤ length q.now }
+    requires room { n + length (opened_around (rules_of bounds.limit bounds.size) (mesh_of extent.v extent.f w.old p.now q.now) which x) ≤ 3 * extent.f }
+    ensures { Added extent.v extent.f w.old n (opened_around (rules_of bounds.limit bounds.size) (mesh_of extent.v extent.f w.old p.now q.now) which x) w.new result }
 {
-    let count = ring::list_around(w, v, f, which, x);
-    open_listed(w, p, q, v, f, n, x, count, bounds)
+    let count = ring::list_around(w, extent, which, x);
+    open_listed(w, p, q, extent, n, x, count, bounds)
 }
 
 // After a fold: opens keep with each present neighbour, keep first. Says how many pairs are open.
@@ -94,29 +91,28 @@ pub fn open_neighbours(
     w: &mut [u32],
     p: &[f32],
     q: &[f64],
-    v: usize,
-    f: usize,
+    extent: Extent,
     n: usize,
     keep: u32,
     bounds: Bounds,
 ) -> usize
-    requires tidy { (Tidy v f w.old) × ((keep < v) × ((3 * v ≤ length p.now) × (10 * v ≤ length q.now))) }
-    requires room { n + length (opened (rules_of bounds.limit bounds.size) (mesh_of v f w.old p.now q.now) keep) ≤ 3 * f }
-    ensures { Added v f w.old n (opened (rules_of bounds.limit bounds.size) (mesh_of v f w.old p.now q.now) keep) w.new result }
+    requires tidy { (Tidy extent.v extent.f w.old) × ((keep < extent.v) × ((3 * extent.v ≤ length p.now) × (10 * extent.v ≤ length q.now))) }
+    requires room { n + length (opened (rules_of bounds.limit bounds.size) (mesh_of extent.v extent.f w.old p.now q.now) keep) ≤ 3 * extent.f }
+    ensures { Added extent.v extent.f w.old n (opened (rules_of bounds.limit bounds.size) (mesh_of extent.v extent.f w.old p.now q.now) keep) w.new result }
 {
-    open_around(w, p, q, v, f, n, Neighbours::Every, keep, bounds)
+    open_around(w, p, q, extent, n, Neighbours::Every, keep, bounds)
 }
 
 // At the start: opens each pair that a face edge runs along from its lower to its higher number. Says how many pairs are open.
-pub fn open_start(w: &mut [u32], p: &[f32], q: &[f64], v: usize, f: usize, bounds: Bounds) -> usize
-    requires fact_1 { Tidy v f w.old }
-    requires fact_2 { 3 * v ≤ length p.now }
-    requires fact_3 { 10 * v ≤ length q.now }
-    ensures { Added v f w.old 0 (started (rules_of bounds.limit bounds.size) (mesh_of v f w.old p.now q.now)).«open» w.new result }
+pub fn open_start(w: &mut [u32], p: &[f32], q: &[f64], extent: Extent, bounds: Bounds) -> usize
+    requires fact_1 { Tidy extent.v extent.f w.old }
+    requires fact_2 { 3 * extent.v ≤ length p.now }
+    requires fact_3 { 10 * extent.v ≤ length q.now }
+    ensures { Added extent.v extent.f w.old 0 (started (rules_of bounds.limit bounds.size) (mesh_of extent.v extent.f w.old p.now q.now)).«open» w.new result }
 {
     let mut n = 0;
-    for x in 0..v {
-        n = open_around(w, p, q, v, f, n, Neighbours::Rising, x as u32, bounds);
+    for x in 0..extent.v {
+        n = open_around(w, p, q, extent, n, Neighbours::Rising, x as u32, bounds);
     }
     n
 }

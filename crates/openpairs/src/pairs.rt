@@ -7,7 +7,7 @@ ghost use Rattle.memory.specs.Entries.{pair_at};
 ghost use Rattle.openpairs.specs.Clauses.Ranks.{ranked_at, rank};
 ghost use Rattle.openpairs.specs.Clauses.Changes.{Named, LeastAt, Closed, Dropped};
 
-use memory::{keep_at, remove_at, set_pair, vertex_at};
+use memory::{Extent, keep_at, remove_at, set_pair, vertex_at};
 use placement::pair::{Vertex, pair_cost, pair_place};
 use placement::{Bounds, Fold};
 
@@ -28,16 +28,16 @@ pub struct Ranked {
 }
 
 // Closes the pair in a place of the list: the last one takes its place. Says how many are left.
-pub fn close_pair(w: &mut [u32], v: usize, f: usize, n: usize, at: usize) -> usize
+pub fn close_pair(w: &mut [u32], extent: Extent, n: usize, at: usize) -> usize
     requires fact_1 { at < n }
-    requires fact_2 { n ≤ 3 * f }
-    requires fact_3 { Room v f w.old }
-    ensures { Closed v f w.old n at w.new result }
+    requires fact_2 { n ≤ 3 * extent.f }
+    requires fact_3 { Room extent.v extent.f w.old }
+    ensures { Closed extent.v extent.f w.old n at w.new result }
 {
     let last = n - 1;
-    let keep = keep_at(w, v, f, last);
-    let remove = remove_at(w, v, f, last);
-    set_pair(w, v, f, at, keep, remove);
+    let keep = keep_at(w, extent, last);
+    let remove = remove_at(w, extent, last);
+    set_pair(w, extent, at, keep, remove);
     last
 }
 
@@ -49,17 +49,17 @@ fn is_apart(first: u32, second: u32, keep: u32, remove: u32) -> bool
 }
 
 // Closes the pairs that touch either of two points: the others move up, in order. Says how many are left.
-pub fn drop_pairs(w: &mut [u32], v: usize, f: usize, n: usize, keep: u32, remove: u32) -> usize
-    requires fact_1 { n ≤ 3 * f }
-    requires fact_2 { Room v f w.old }
-    ensures { Dropped v f w.old n keep remove w.new result }
+pub fn drop_pairs(w: &mut [u32], extent: Extent, n: usize, keep: u32, remove: u32) -> usize
+    requires fact_1 { n ≤ 3 * extent.f }
+    requires fact_2 { Room extent.v extent.f w.old }
+    ensures { Dropped extent.v extent.f w.old n keep remove w.new result }
 {
     let mut kept = 0;
     for i in 0..n {
-        let first = keep_at(w, v, f, i);
-        let second = remove_at(w, v, f, i);
+        let first = keep_at(w, extent, i);
+        let second = remove_at(w, extent, i);
         if is_apart(first, second, keep, remove) {
-            set_pair(w, v, f, kept, first, second);
+            set_pair(w, extent, kept, first, second);
             kept += 1;
         }
     }
@@ -71,42 +71,33 @@ pub fn ends_at(
     w: &[u32],
     p: &[f32],
     q: &[f64],
-    v: usize,
-    f: usize,
+    extent: Extent,
     keep: u32,
     remove: u32,
 ) -> (Vertex, Vertex)
-    requires room { Room v f w.now }
-    requires points_long { 3 * v ≤ length p.now }
-    requires quadrics_long { 10 * v ≤ length q.now }
-    requires named { (keep < v) × (remove < v) }
-    ensures { result ≡ (vertex_at v f w.now p.now q.now keep, vertex_at v f w.now p.now q.now remove) }
+    requires room { Room extent.v extent.f w.now }
+    requires points_long { 3 * extent.v ≤ length p.now }
+    requires quadrics_long { 10 * extent.v ≤ length q.now }
+    requires named { (keep < extent.v) × (remove < extent.v) }
+    ensures { result ≡ (vertex_at extent.v extent.f w.now p.now q.now keep, vertex_at extent.v extent.f w.now p.now q.now remove) }
 {
-    let stays = vertex_at(w, p, q, v, f, keep as usize);
-    let goes = vertex_at(w, p, q, v, f, remove as usize);
+    let stays = vertex_at(w, p, q, extent, keep as usize);
+    let goes = vertex_at(w, p, q, extent, remove as usize);
     (stays, goes)
 }
 
 // The pair in a place of the list, with its cost, which is worked out anew.
-fn ranked_at(
-    w: &[u32],
-    p: &[f32],
-    q: &[f64],
-    v: usize,
-    f: usize,
-    i: usize,
-    bounds: Bounds,
-) -> Ranked
-    requires inside { i < 3 * f }
-    requires room { Room v f w.now }
-    requires named { ((pair_at v f w.now i).keep < v) × ((pair_at v f w.now i).remove < v) }
-    requires points_long { 3 * v ≤ length p.now }
-    requires quadrics_long { 10 * v ≤ length q.now }
-    ensures { result ≡ ranked_at v f w.now p.now q.now bounds.size i }
+fn ranked_at(w: &[u32], p: &[f32], q: &[f64], extent: Extent, i: usize, bounds: Bounds) -> Ranked
+    requires inside { i < 3 * extent.f }
+    requires room { Room extent.v extent.f w.now }
+    requires named { ((pair_at extent.v extent.f w.now i).keep < extent.v) × ((pair_at extent.v extent.f w.now i).remove < extent.v) }
+    requires points_long { 3 * extent.v ≤ length p.now }
+    requires quadrics_long { 10 * extent.v ≤ length q.now }
+    ensures { result ≡ ranked_at extent.v extent.f w.now p.now q.now bounds.size i }
 {
-    let keep = keep_at(w, v, f, i);
-    let remove = remove_at(w, v, f, i);
-    let (stays, goes) = ends_at(w, p, q, v, f, keep, remove);
+    let keep = keep_at(w, extent, i);
+    let remove = remove_at(w, extent, i);
+    let (stays, goes) = ends_at(w, p, q, extent, keep, remove);
     let cost = pair_cost(stays, goes, bounds.size);
     Ranked {
         at: i,
@@ -144,22 +135,21 @@ pub fn least_pair(
     w: &[u32],
     p: &[f32],
     q: &[f64],
-    v: usize,
-    f: usize,
+    extent: Extent,
     n: usize,
     bounds: Bounds,
 ) -> Least
     requires fact_1 { 0 < n }
-    requires fact_2 { n ≤ 3 * f }
-    requires fact_3 { Room v f w.now }
-    requires fact_4 { Named v f w.now n }
-    requires fact_5 { 3 * v ≤ length p.now }
-    requires fact_6 { 10 * v ≤ length q.now }
-    ensures { LeastAt v f w.now p.now q.now n bounds.limit bounds.size result }
+    requires fact_2 { n ≤ 3 * extent.f }
+    requires fact_3 { Room extent.v extent.f w.now }
+    requires fact_4 { Named extent.v extent.f w.now n }
+    requires fact_5 { 3 * extent.v ≤ length p.now }
+    requires fact_6 { 10 * extent.v ≤ length q.now }
+    ensures { LeastAt extent.v extent.f w.now p.now q.now n bounds.limit bounds.size result }
 {
-    let mut least = ranked_at(w, p, q, v, f, 0, bounds);
+    let mut least = ranked_at(w, p, q, extent, 0, bounds);
     for i in 1..n {
-        let next = ranked_at(w, p, q, v, f, i, bounds);
+        let next = ranked_at(w, p, q, extent, i, bounds);
         if comes_first(next, least) {
             least = next;
         }
@@ -170,7 +160,7 @@ pub fn least_pair(
         remove,
         ..
     } = least;
-    let (stays, goes) = ends_at(w, p, q, v, f, keep, remove);
+    let (stays, goes) = ends_at(w, p, q, extent, keep, remove);
     let place = pair_place(stays, goes, bounds.size);
     let fold = Fold {
         keep,

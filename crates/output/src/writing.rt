@@ -8,7 +8,7 @@ ghost use Rattle.output.specs.Clauses.Written.{MeshWritten};
 ghost use Rattle.output.specs.Clauses.Numbering.{three_put, parts_put, Known, Numbered, FaceWritten};
 
 use crate::Counts;
-use memory::{face_in, is_live, mark_at, point_at, set_mark};
+use memory::{Extent, face_in, is_live, mark_at, point_at, set_mark};
 use walk::Face;
 
 // A point's new number, and how many points have one.
@@ -44,19 +44,18 @@ fn put_face(out_faces: &mut [u32], n: usize, a: u32, b: u32, c: u32)
 fn number_of(
     w: &mut [u32],
     p: &[f32],
-    v: usize,
-    f: usize,
+    extent: Extent,
     x: usize,
     met: usize,
     out_points: &mut [f32],
 ) -> NewNumber
-    requires fact_1 { Room v f w.old }
-    requires fact_2 { x < v }
-    requires fact_3 { 3 * v ≤ length p.now }
-    requires fact_4 { Known v f p.now w.old out_points.old met }
-    ensures { Numbered v f p.now x w.old out_points.old met w.new out_points.new result }
+    requires fact_1 { Room extent.v extent.f w.old }
+    requires fact_2 { x < extent.v }
+    requires fact_3 { 3 * extent.v ≤ length p.now }
+    requires fact_4 { Known extent.v extent.f p.now w.old out_points.old met }
+    ensures { Numbered extent.v extent.f p.now x w.old out_points.old met w.new out_points.new result }
 {
-    let kept = mark_at(w, v, f, x);
+    let kept = mark_at(w, extent, x);
     if kept != 0 {
         return NewNumber {
             number: kept - 1,
@@ -64,7 +63,7 @@ fn number_of(
         };
     }
     put_point(p, x, out_points, met);
-    set_mark(w, v, f, x, (met + 1) as u32);
+    set_mark(w, extent, x, (met + 1) as u32);
     NewNumber {
         number: met as u32,
         met: met + 1,
@@ -75,23 +74,22 @@ fn number_of(
 fn write_face(
     w: &mut [u32],
     p: &[f32],
-    v: usize,
-    f: usize,
+    extent: Extent,
     face: Face,
     counts: Counts,
     out_points: &mut [f32],
     out_faces: &mut [u32],
 ) -> Counts
-    requires fact_1 { Room v f w.old }
-    requires fact_2 { proper v face ≡ true }
-    requires fact_3 { 3 * v ≤ length p.now }
+    requires fact_1 { Room extent.v extent.f w.old }
+    requires fact_2 { proper extent.v face ≡ true }
+    requires fact_3 { 3 * extent.v ≤ length p.now }
     requires fact_4 { 3 * counts.faces + 3 ≤ length out_faces.old }
-    requires fact_5 { Known v f p.now w.old out_points.old counts.points }
-    ensures { FaceWritten v f p.now face w.old out_points.old out_faces.old counts w.new out_points.new out_faces.new result }
+    requires fact_5 { Known extent.v extent.f p.now w.old out_points.old counts.points }
+    ensures { FaceWritten extent.v extent.f p.now face w.old out_points.old out_faces.old counts w.new out_points.new out_faces.new result }
 {
-    let a = number_of(w, p, v, f, face.a as usize, counts.points, out_points);
-    let b = number_of(w, p, v, f, face.b as usize, a.met, out_points);
-    let c = number_of(w, p, v, f, face.c as usize, b.met, out_points);
+    let a = number_of(w, p, extent, face.a as usize, counts.points, out_points);
+    let b = number_of(w, p, extent, face.b as usize, a.met, out_points);
+    let c = number_of(w, p, extent, face.c as usize, b.met, out_points);
     put_face(out_faces, counts.faces, a.number, b.number, c.number);
     Counts {
         points: c.met,
@@ -103,25 +101,24 @@ fn write_face(
 pub fn write_mesh(
     w: &mut [u32],
     p: &[f32],
-    v: usize,
-    f: usize,
+    extent: Extent,
     out_points: &mut [f32],
     out_faces: &mut [u32],
 ) -> Counts
-    requires fact_1 { Tidy v f w.old }
-    requires fact_2 { 3 * v ≤ length p.now }
-    requires fact_3 { 3 * v ≤ length out_points.old }
-    requires fact_4 { 3 * f ≤ length out_faces.old }
-    ensures { MeshWritten v f w.old p.now out_points.old out_faces.old w.new out_points.new out_faces.new result }
+    requires fact_1 { Tidy extent.v extent.f w.old }
+    requires fact_2 { 3 * extent.v ≤ length p.now }
+    requires fact_3 { 3 * extent.v ≤ length out_points.old }
+    requires fact_4 { 3 * extent.f ≤ length out_faces.old }
+    ensures { MeshWritten extent.v extent.f w.old p.now out_points.old out_faces.old w.new out_points.new out_faces.new result }
 {
     let mut counts = Counts {
         points: 0,
         faces: 0,
     };
-    for k in 0..f {
-        if is_live(w, f, k) {
-            let face = face_in(w, f, k);
-            counts = write_face(w, p, v, f, face, counts, out_points, out_faces);
+    for k in 0..extent.f {
+        if is_live(w, extent.f, k) {
+            let face = face_in(w, extent.f, k);
+            counts = write_face(w, p, extent, face, counts, out_points, out_faces);
         }
     }
     counts

@@ -8,6 +8,7 @@ ghost use Rattle.openpairs.specs.State.{state_of};
 ghost use Rattle.plainwalk.specs.Steps.{Holds, Found, PairTried, StepDone};
 ghost use Rattle.plainwalk.specs.Whole.{WalkedFrom, WalkDone};
 
+use memory::Extent;
 use openpairs::Least;
 use placement::Bounds;
 use walk::{Closings, Pair, Reason};
@@ -42,24 +43,23 @@ fn try_pair(
     w: &mut [u32],
     p: &mut [f32],
     q: &mut [f64],
-    v: usize,
-    f: usize,
+    extent: Extent,
     open: usize,
     live: usize,
     least: Least,
     bounds: Bounds,
 ) -> Stepped
-    requires fact_1 { Holds v f w.old p.old q.old «open» live }
-    requires fact_2 { Found v f w.old p.old q.old «open» bounds.size least }
-    ensures { PairTried v f w.old p.old q.old «open» least bounds.limit bounds.size w.new p.new q.new result }
+    requires fact_1 { Holds extent.v extent.f w.old p.old q.old «open» live }
+    requires fact_2 { Found extent.v extent.f w.old p.old q.old «open» bounds.size least }
+    ensures { PairTried extent.v extent.f w.old p.old q.old «open» least bounds.limit bounds.size w.new p.new q.new result }
 {
     let fold = least.fold;
     let keep = fold.keep;
     let remove = fold.remove;
-    match folding::try_fold(w, p, q, v, f, fold) {
+    match folding::try_fold(w, p, q, extent, fold) {
         Ok(gone) => {
-            let kept = openpairs::drop_pairs(w, v, f, open, keep, remove);
-            let opened = openpairs::open_neighbours(w, p, q, v, f, kept, keep, bounds);
+            let kept = openpairs::drop_pairs(w, extent, open, keep, remove);
+            let opened = openpairs::open_neighbours(w, p, q, extent, kept, keep, bounds);
             let left = live - gone;
             Stepped {
                 step: Step::Folded(Pair { keep, remove }),
@@ -69,7 +69,7 @@ fn try_pair(
         }
         Err(reason) => {
             let at = least.at;
-            let still_open = openpairs::close_pair(w, v, f, open, at);
+            let still_open = openpairs::close_pair(w, extent, open, at);
             Stepped {
                 step: Step::Closed(Pair { keep, remove }, reason),
                 open: still_open,
@@ -84,15 +84,14 @@ pub fn plain_step(
     w: &mut [u32],
     p: &mut [f32],
     q: &mut [f64],
-    v: usize,
-    f: usize,
+    extent: Extent,
     open: usize,
     live: usize,
     target: usize,
     bounds: Bounds,
 ) -> Stepped
-    requires { Holds v f w.old p.old q.old «open» live }
-    ensures { StepDone v f w.old p.old q.old «open» target bounds.limit bounds.size w.new p.new q.new result }
+    requires { Holds extent.v extent.f w.old p.old q.old «open» live }
+    ensures { StepDone extent.v extent.f w.old p.old q.old «open» target bounds.limit bounds.size w.new p.new q.new result }
 {
     if live <= target {
         return Stepped {
@@ -108,8 +107,8 @@ pub fn plain_step(
             live,
         };
     }
-    let least = openpairs::least_pair(w, p, q, v, f, open, bounds);
-    try_pair(w, p, q, v, f, open, live, least, bounds)
+    let least = openpairs::least_pair(w, p, q, extent, open, bounds);
+    try_pair(w, p, q, extent, open, live, least, bounds)
 }
 
 // Takes steps of the plain walk from any state, to the end.
@@ -117,28 +116,27 @@ fn walk_on(
     w: &mut [u32],
     p: &mut [f32],
     q: &mut [f64],
-    v: usize,
-    f: usize,
+    extent: Extent,
     open: usize,
     live: usize,
     target: usize,
     bounds: Bounds,
 ) -> Walked
-    requires { Holds v f w.old p.old q.old «open» live }
-    ensures { WalkedFrom v f (state_of v f w.old p.old q.old «open») w.old p.old q.old target bounds.limit bounds.size w.new p.new q.new result }
+    requires { Holds extent.v extent.f w.old p.old q.old «open» live }
+    ensures { WalkedFrom extent.v extent.f (state_of extent.v extent.f w.old p.old q.old «open») w.old p.old q.old target bounds.limit bounds.size w.new p.new q.new result }
 {
     let mut pairs_open = open;
     let mut faces_live = live;
     let mut folds = 0;
     let mut closed = Closings::default();
     loop {
-        let stepped = plain_step(w, p, q, v, f, pairs_open, faces_live, target, bounds);
+        let stepped = plain_step(w, p, q, extent, pairs_open, faces_live, target, bounds);
         pairs_open = stepped.open;
         faces_live = stepped.live;
         let step = stepped.step;
         match step {
             Step::Folded(pair) => {
-                memory::note_fold(w, v, f, folds, pair);
+                memory::note_fold(w, extent, folds, pair);
                 folds += 1;
             }
             Step::Closed(_, reason) => {
@@ -160,17 +158,16 @@ pub fn plain_walk(
     w: &mut [u32],
     p: &mut [f32],
     q: &mut [f64],
-    v: usize,
-    f: usize,
+    extent: Extent,
     target: usize,
     bounds: Bounds,
 ) -> Walked
-    requires fact_1 { Tidy v f w.old }
-    requires fact_2 { length (live_faces f w.old) ≡ f }
-    requires fact_3 { 3 * v ≤ length p.old }
-    requires fact_4 { 10 * v ≤ length q.old }
-    ensures { WalkDone v f w.old p.old q.old target bounds.limit bounds.size w.new p.new q.new result }
+    requires fact_1 { Tidy extent.v extent.f w.old }
+    requires fact_2 { length (live_faces extent.f w.old) ≡ extent.f }
+    requires fact_3 { 3 * extent.v ≤ length p.old }
+    requires fact_4 { 10 * extent.v ≤ length q.old }
+    ensures { WalkDone extent.v extent.f w.old p.old q.old target bounds.limit bounds.size w.new p.new q.new result }
 {
-    let open = openpairs::open_start(w, p, q, v, f, bounds);
-    walk_on(w, p, q, v, f, open, f, target, bounds)
+    let open = openpairs::open_start(w, p, q, extent, bounds);
+    walk_on(w, p, q, extent, open, extent.f, target, bounds)
 }

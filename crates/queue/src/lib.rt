@@ -16,49 +16,49 @@ ghost use Rattle.memory.specs.Layout.{stamps_from};
 
 mod order;
 
-use memory::{Entry, entry_at, set_entry, set_stamp, stamp_at};
+use memory::{Entry, Extent, entry_at, set_entry, set_stamp, stamp_at};
 use placement::Fold;
 use walk::Pair;
 
 // Makes every entry of a point old.
-pub fn bump(w: &mut [u32], v: usize, f: usize, x: usize)
-    requires fact_1 { x < v }
-    requires fact_2 { Room v f w.old }
-    requires fact_3 { stamp v f w.old x + 1 < 2 ^ 32 }
-    ensures { w.new ≡ set w.old (stamps_from v f + x) (stamp v f w.old x + 1) }
+pub fn bump(w: &mut [u32], extent: Extent, x: usize)
+    requires fact_1 { x < extent.v }
+    requires fact_2 { Room extent.v extent.f w.old }
+    requires fact_3 { stamp extent.v extent.f w.old x + 1 < 2 ^ 32 }
+    ensures { w.new ≡ set w.old (stamps_from extent.v extent.f + x) (stamp extent.v extent.f w.old x + 1) }
 {
-    let old = stamp_at(w, v, f, x);
-    set_stamp(w, v, f, x, old + 1);
+    let old = stamp_at(w, extent, x);
+    set_stamp(w, extent, x, old + 1);
 }
 
 // The queue at the start: every stamp is 0.
-pub fn empty(w: &mut [u32], p: &[f32], q: &[f64], v: usize, f: usize)
-    requires { EntryRoom v f w.old p.now q.now }
-    ensures { Emptied v f w.old p.now q.now w.new }
+pub fn empty(w: &mut [u32], p: &[f32], q: &[f64], extent: Extent)
+    requires { EntryRoom extent.v extent.f w.old p.now q.now }
+    ensures { Emptied extent.v extent.f w.old p.now q.now w.new }
 {
-    lists::fill(w, memory::stamps_from(v, f), v, 0);
+    lists::fill(w, memory::stamps_from(extent), extent.v, 0);
 }
 
 // Whether an entry is current.
-pub fn is_current(w: &[u32], v: usize, f: usize, entry: Entry) -> bool
-    requires fact_1 { Room v f w.now }
-    requires fact_2 { Named v entry }
-    ensures { result ≡ is_present v f w.now entry }
+pub fn is_current(w: &[u32], extent: Extent, entry: Entry) -> bool
+    requires fact_1 { Room extent.v extent.f w.now }
+    requires fact_2 { Named extent.v entry }
+    ensures { result ≡ is_present extent.v extent.f w.now entry }
 {
     let pair = entry.pair;
-    (entry.keepstamp == stamp_at(w, v, f, pair.keep as usize))
-        & (entry.removestamp == stamp_at(w, v, f, pair.remove as usize))
+    (entry.keepstamp == stamp_at(w, extent, pair.keep as usize))
+        & (entry.removestamp == stamp_at(w, extent, pair.remove as usize))
 }
 
 // Takes the entry on top off: the last one goes down from there.
-pub fn pop(w: &mut [u32], p: &mut [f32], q: &mut [f64], v: usize, f: usize, n: usize) -> Entry
+pub fn pop(w: &mut [u32], p: &mut [f32], q: &mut [f64], extent: Extent, n: usize) -> Entry
     requires fact_1 { 0 < n }
-    requires fact_2 { Queue v f w.old p.old q.old n }
-    ensures { Popped v f w.old p.old q.old n w.new p.new q.new result }
+    requires fact_2 { Queue extent.v extent.f w.old p.old q.old n }
+    ensures { Popped extent.v extent.f w.old p.old q.old n w.new p.new q.new result }
 {
-    let top = entry_at(w, p, q, v, f, 0);
-    let last = entry_at(w, p, q, v, f, n - 1);
-    order::sift_down(w, p, q, v, f, 0, n - 1, last);
+    let top = entry_at(w, p, q, extent, 0);
+    let last = entry_at(w, p, q, extent, n - 1);
+    order::sift_down(w, p, q, extent, 0, n - 1, last);
     top
 }
 
@@ -67,17 +67,16 @@ pub fn take_current(
     w: &mut [u32],
     p: &mut [f32],
     q: &mut [f64],
-    v: usize,
-    f: usize,
+    extent: Extent,
     n: usize,
 ) -> Option<(Entry, usize)>
-    requires fact_1 { Queue v f w.old p.old q.old n }
-    requires fact_2 { QueueNamed v f w.old p.old q.old n }
-    ensures { TookCurrent v f w.old p.old q.old n w.new p.new q.new result }
+    requires fact_1 { Queue extent.v extent.f w.old p.old q.old n }
+    requires fact_2 { QueueNamed extent.v extent.f w.old p.old q.old n }
+    ensures { TookCurrent extent.v extent.f w.old p.old q.old n w.new p.new q.new result }
 {
     for left in (0..n).rev() {
-        let top = pop(w, p, q, v, f, left + 1);
-        if is_current(w, v, f, top) {
+        let top = pop(w, p, q, extent, left + 1);
+        if is_current(w, extent, top) {
             return Some((top, left));
         }
     }
@@ -86,24 +85,17 @@ pub fn take_current(
 
 // Puts the current entries first. Says how many they are. Each entry is written where the next current one goes, and counted where it is current: which ones are
 // can't be guessed, so no work hangs on it.
-fn gather_current(
-    w: &mut [u32],
-    p: &mut [f32],
-    q: &mut [f64],
-    v: usize,
-    f: usize,
-    n: usize,
-) -> usize
-    requires fact_1 { n ≤ 3 * f }
-    requires fact_2 { EntryRoom v f w.old p.old q.old }
-    requires fact_3 { QueueNamed v f w.old p.old q.old n }
-    ensures { CurrentFirst v f w.old p.old q.old n w.new p.new q.new result }
+fn gather_current(w: &mut [u32], p: &mut [f32], q: &mut [f64], extent: Extent, n: usize) -> usize
+    requires fact_1 { n ≤ 3 * extent.f }
+    requires fact_2 { EntryRoom extent.v extent.f w.old p.old q.old }
+    requires fact_3 { QueueNamed extent.v extent.f w.old p.old q.old n }
+    ensures { CurrentFirst extent.v extent.f w.old p.old q.old n w.new p.new q.new result }
 {
     let mut kept = 0;
     for i in 0..n {
-        let entry = entry_at(w, p, q, v, f, i);
-        let stays = is_current(w, v, f, entry);
-        set_entry(w, p, q, v, f, kept, entry);
+        let entry = entry_at(w, p, q, extent, i);
+        let stays = is_current(w, extent, entry);
+        set_entry(w, p, q, extent, kept, entry);
         if stays {
             kept += 1;
         }
@@ -112,13 +104,13 @@ fn gather_current(
 }
 
 // Throws the old entries out. Says how many stay.
-pub fn throw_out(w: &mut [u32], p: &mut [f32], q: &mut [f64], v: usize, f: usize, n: usize) -> usize
-    requires fact_1 { Queue v f w.old p.old q.old n }
-    requires fact_2 { QueueNamed v f w.old p.old q.old n }
-    ensures { ThrownOut v f w.old p.old q.old n w.new p.new q.new result }
+pub fn throw_out(w: &mut [u32], p: &mut [f32], q: &mut [f64], extent: Extent, n: usize) -> usize
+    requires fact_1 { Queue extent.v extent.f w.old p.old q.old n }
+    requires fact_2 { QueueNamed extent.v extent.f w.old p.old q.old n }
+    ensures { ThrownOut extent.v extent.f w.old p.old q.old n w.new p.new q.new result }
 {
-    let kept = gather_current(w, p, q, v, f, n);
-    order::settle(w, p, q, v, f, kept);
+    let kept = gather_current(w, p, q, extent, n);
+    order::settle(w, p, q, extent, kept);
     kept
 }
 
@@ -127,40 +119,39 @@ pub fn take_first(
     w: &mut [u32],
     p: &mut [f32],
     q: &mut [f64],
-    v: usize,
-    f: usize,
+    extent: Extent,
     n: usize,
     thin: bool,
 ) -> Option<(Entry, usize)>
-    requires fact_1 { Queue v f w.old p.old q.old n }
-    requires fact_2 { QueueNamed v f w.old p.old q.old n }
-    ensures { TookCurrent v f w.old p.old q.old n w.new p.new q.new result }
+    requires fact_1 { Queue extent.v extent.f w.old p.old q.old n }
+    requires fact_2 { QueueNamed extent.v extent.f w.old p.old q.old n }
+    ensures { TookCurrent extent.v extent.f w.old p.old q.old n w.new p.new q.new result }
 {
     if thin {
-        let kept = throw_out(w, p, q, v, f, n);
-        return take_current(w, p, q, v, f, kept);
+        let kept = throw_out(w, p, q, extent, n);
+        return take_current(w, p, q, extent, kept);
     }
-    take_current(w, p, q, v, f, n)
+    take_current(w, p, q, extent, n)
 }
 
 // Makes room for an entry: a full queue throws its old entries out. Says how many there are.
-fn make_room(w: &mut [u32], p: &mut [f32], q: &mut [f64], v: usize, f: usize, n: usize) -> usize
-    requires fact_1 { Queue v f w.old p.old q.old n }
-    requires fact_2 { QueueNamed v f w.old p.old q.old n }
-    requires fact_3 { length (open_in v f w.old n) < 3 * f }
-    ensures { RoomMade v f w.old p.old q.old n w.new p.new q.new result }
+fn make_room(w: &mut [u32], p: &mut [f32], q: &mut [f64], extent: Extent, n: usize) -> usize
+    requires fact_1 { Queue extent.v extent.f w.old p.old q.old n }
+    requires fact_2 { QueueNamed extent.v extent.f w.old p.old q.old n }
+    requires fact_3 { length (open_in extent.v extent.f w.old n) < 3 * extent.f }
+    ensures { RoomMade extent.v extent.f w.old p.old q.old n w.new p.new q.new result }
 {
-    if n == 3 * f {
-        return throw_out(w, p, q, v, f, n);
+    if n == 3 * extent.f {
+        return throw_out(w, p, q, extent, n);
     }
     n
 }
 
 // The entry of a pair, with the present stamps of its points.
-fn entry_of(w: &[u32], v: usize, f: usize, fold: Fold, cost: f64) -> Entry
-    requires fact_1 { Room v f w.now }
-    requires fact_2 { (fold.keep < v) × (fold.remove < v) }
-    ensures { result ≡ entry_of v f w.now fold.keep fold.remove cost fold.place }
+fn entry_of(w: &[u32], extent: Extent, fold: Fold, cost: f64) -> Entry
+    requires fact_1 { Room extent.v extent.f w.now }
+    requires fact_2 { (fold.keep < extent.v) × (fold.remove < extent.v) }
+    ensures { result ≡ entry_of extent.v extent.f w.now fold.keep fold.remove cost fold.place }
 {
     let pair = Pair {
         keep: fold.keep,
@@ -171,8 +162,8 @@ fn entry_of(w: &[u32], v: usize, f: usize, fold: Fold, cost: f64) -> Entry
         pair,
         cost,
         place,
-        keepstamp: stamp_at(w, v, f, fold.keep as usize),
-        removestamp: stamp_at(w, v, f, fold.remove as usize),
+        keepstamp: stamp_at(w, extent, fold.keep as usize),
+        removestamp: stamp_at(w, extent, fold.remove as usize),
     }
 }
 
@@ -181,21 +172,20 @@ pub fn push(
     w: &mut [u32],
     p: &mut [f32],
     q: &mut [f64],
-    v: usize,
-    f: usize,
+    extent: Extent,
     n: usize,
     fold: Fold,
     cost: f64,
 ) -> usize
-    requires fact_1 { Queue v f w.old p.old q.old n }
-    requires fact_2 { QueueNamed v f w.old p.old q.old n }
-    requires fact_3 { (fold.keep < v) × (fold.remove < v) }
-    requires fact_4 { length (open_in v f w.old n) < 3 * f }
-    ensures fact_1 { Pushed v f w.old p.old q.old n fold.keep fold.remove cost fold.place w.new p.new q.new result }
-    ensures fact_2 { ((bound : Float) → Kept v f w.old p.old q.old n bound → cost ≡ pair_cost bound (vertex_at v f w.old p.old q.old fold.keep) (vertex_at v f w.old p.old q.old fold.remove) → fold.place ≡ pair_place bound (vertex_at v f w.old p.old q.old fold.keep) (vertex_at v f w.old p.old q.old fold.remove) → Kept v f w.new p.new q.new result bound) }
+    requires fact_1 { Queue extent.v extent.f w.old p.old q.old n }
+    requires fact_2 { QueueNamed extent.v extent.f w.old p.old q.old n }
+    requires fact_3 { (fold.keep < extent.v) × (fold.remove < extent.v) }
+    requires fact_4 { length (open_in extent.v extent.f w.old n) < 3 * extent.f }
+    ensures fact_1 { Pushed extent.v extent.f w.old p.old q.old n fold.keep fold.remove cost fold.place w.new p.new q.new result }
+    ensures fact_2 { ((bound : Float) → Kept extent.v extent.f w.old p.old q.old n bound → cost ≡ pair_cost bound (vertex_at extent.v extent.f w.old p.old q.old fold.keep) (vertex_at extent.v extent.f w.old p.old q.old fold.remove) → fold.place ≡ pair_place bound (vertex_at extent.v extent.f w.old p.old q.old fold.keep) (vertex_at extent.v extent.f w.old p.old q.old fold.remove) → Kept extent.v extent.f w.new p.new q.new result bound) }
 {
-    let count = make_room(w, p, q, v, f, n);
-    let entry = entry_of(w, v, f, fold, cost);
-    order::sift_up(w, p, q, v, f, count, entry);
+    let count = make_room(w, p, q, extent, n);
+    let entry = entry_of(w, extent, fold, cost);
+    order::sift_up(w, p, q, extent, count, entry);
     count + 1
 }

@@ -12,6 +12,7 @@ ghost use Rattle.ring.specs.Clauses.Taking.{Taken, MarksReady};
 
 use crate::Neighbours;
 use crate::marking::clear_mark;
+use memory::Extent;
 use walk::Face;
 
 // Whether an edge of a face runs from x to y.
@@ -34,98 +35,98 @@ fn is_wanted(which: Neighbours, x: u32, y: u32, face: Face) -> bool
 }
 
 // Marks a point of a face around x that the face asks for.
-fn mark_corner(w: &mut [u32], v: usize, f: usize, which: Neighbours, x: u32, y: u32, face: Face)
-    requires fact_1 { Room v f w.old }
-    requires fact_2 { y < v }
-    ensures { Marks v f (λ u. eqb u y && wanted which x y face) w.old w.new }
+fn mark_corner(w: &mut [u32], extent: Extent, which: Neighbours, x: u32, y: u32, face: Face)
+    requires fact_1 { Room extent.v extent.f w.old }
+    requires fact_2 { y < extent.v }
+    ensures { Marks extent.v extent.f (λ u. eqb u y && wanted which x y face) w.old w.new }
 {
     if is_wanted(which, x, y, face) {
-        memory::set_mark(w, v, f, y as usize, 1);
+        memory::set_mark(w, extent, y as usize, 1);
     }
 }
 
 // Marks the points of a face around x that it asks for.
-fn mark_face(w: &mut [u32], v: usize, f: usize, which: Neighbours, x: u32, face: Face)
-    requires fact_1 { Room v f w.old }
-    requires fact_2 { proper v face ≡ true }
-    ensures { Marks v f (λ u. holds u face && wanted which x u face) w.old w.new }
+fn mark_face(w: &mut [u32], extent: Extent, which: Neighbours, x: u32, face: Face)
+    requires fact_1 { Room extent.v extent.f w.old }
+    requires fact_2 { proper extent.v face ≡ true }
+    ensures { Marks extent.v extent.f (λ u. holds u face && wanted which x u face) w.old w.new }
 {
-    mark_corner(w, v, f, which, x, face.a, face);
-    mark_corner(w, v, f, which, x, face.b, face);
-    mark_corner(w, v, f, which, x, face.c, face);
+    mark_corner(w, extent, which, x, face.a, face);
+    mark_corner(w, extent, which, x, face.b, face);
+    mark_corner(w, extent, which, x, face.c, face);
 }
 
 // A face of those that were gathered.
-fn face_near(w: &[u32], v: usize, f: usize, i: usize) -> Face
-    requires fact_1 { Room v f w.now }
-    requires fact_2 { i < f }
-    requires fact_3 { near_at v f w.now i < f }
-    ensures { result ≡ face_at w.now (near_at v f w.now i) }
+fn face_near(w: &[u32], extent: Extent, i: usize) -> Face
+    requires fact_1 { Room extent.v extent.f w.now }
+    requires fact_2 { i < extent.f }
+    requires fact_3 { near_at extent.v extent.f w.now i < extent.f }
+    ensures { result ≡ face_at w.now (near_at extent.v extent.f w.now i) }
 {
-    let k = memory::near_at(w, v, f, i);
-    memory::face_in(w, f, k as usize)
+    let k = memory::near_at(w, extent, i);
+    memory::face_in(w, extent.f, k as usize)
 }
 
 // Marks the points that the gathered faces ask for.
-fn mark_wanted(w: &mut [u32], v: usize, f: usize, count: usize, which: Neighbours, x: u32)
-    requires fact_1 { Room v f w.old }
-    requires fact_2 { count ≤ f }
-    requires fact_3 { Near v f w.old count }
-    ensures { Marks v f (λ u. found v f w.old count (λ face. holds u face && wanted which x u face)) w.old w.new }
+fn mark_wanted(w: &mut [u32], extent: Extent, count: usize, which: Neighbours, x: u32)
+    requires fact_1 { Room extent.v extent.f w.old }
+    requires fact_2 { count ≤ extent.f }
+    requires fact_3 { Near extent.v extent.f w.old count }
+    ensures { Marks extent.v extent.f (λ u. found extent.v extent.f w.old count (λ face. holds u face && wanted which x u face)) w.old w.new }
 {
     for i in 0..count {
-        let face = face_near(w, v, f, i);
-        mark_face(w, v, f, which, x, face);
+        let face = face_near(w, extent, i);
+        mark_face(w, extent, which, x, face);
     }
 }
 
 // Takes the mark off a point that has one, and lists the point after the n that are listed. Says how many are listed.
-fn list_corner(w: &mut [u32], v: usize, f: usize, n: usize, y: u32) -> usize
-    requires fact_1 { MarksReady v f w.old n }
-    requires fact_2 { y < v }
-    ensures { Taken v f (λ u. eqb u y) w.old n w.new result }
+fn list_corner(w: &mut [u32], extent: Extent, n: usize, y: u32) -> usize
+    requires fact_1 { MarksReady extent.v extent.f w.old n }
+    requires fact_2 { y < extent.v }
+    ensures { Taken extent.v extent.f (λ u. eqb u y) w.old n w.new result }
 {
-    if memory::mark_at(w, v, f, y as usize) == 0 {
+    if memory::mark_at(w, extent, y as usize) == 0 {
         return n;
     }
-    clear_mark(w, v, f, y);
-    memory::set_around(w, v, f, n, y);
+    clear_mark(w, extent, y);
+    memory::set_around(w, extent, n, y);
     n + 1
 }
 
 // Takes the marks off the points of a face, and lists each. Says how many are listed.
-fn list_face(w: &mut [u32], v: usize, f: usize, n: usize, face: Face) -> usize
-    requires fact_1 { MarksReady v f w.old n }
-    requires fact_2 { proper v face ≡ true }
-    ensures { Taken v f (λ u. holds u face) w.old n w.new result }
+fn list_face(w: &mut [u32], extent: Extent, n: usize, face: Face) -> usize
+    requires fact_1 { MarksReady extent.v extent.f w.old n }
+    requires fact_2 { proper extent.v face ≡ true }
+    ensures { Taken extent.v extent.f (λ u. holds u face) w.old n w.new result }
 {
-    let first = list_corner(w, v, f, n, face.a);
-    let second = list_corner(w, v, f, first, face.b);
-    list_corner(w, v, f, second, face.c)
+    let first = list_corner(w, extent, n, face.a);
+    let second = list_corner(w, extent, first, face.b);
+    list_corner(w, extent, second, face.c)
 }
 
 // Takes the marks off the points of the gathered faces, and lists each. Says how many are listed.
-fn list_marked(w: &mut [u32], v: usize, f: usize, count: usize) -> usize
-    requires fact_1 { MarksReady v f w.old 0 }
-    requires fact_2 { count ≤ f }
-    requires fact_3 { Near v f w.old count }
-    ensures { Taken v f (λ u. found v f w.old count (λ face. holds u face)) w.old 0 w.new result }
+fn list_marked(w: &mut [u32], extent: Extent, count: usize) -> usize
+    requires fact_1 { MarksReady extent.v extent.f w.old 0 }
+    requires fact_2 { count ≤ extent.f }
+    requires fact_3 { Near extent.v extent.f w.old count }
+    ensures { Taken extent.v extent.f (λ u. found extent.v extent.f w.old count (λ face. holds u face)) w.old 0 w.new result }
 {
     let mut n = 0;
     for i in 0..count {
-        let face = face_near(w, v, f, i);
-        n = list_face(w, v, f, n, face);
+        let face = face_near(w, extent, i);
+        n = list_face(w, extent, n, face);
     }
     n
 }
 
 // Lists the points around x, each once. Says how many.
-pub fn list_around(w: &mut [u32], v: usize, f: usize, which: Neighbours, x: u32) -> usize
-    requires fact_1 { Tidy v f w.old }
-    requires fact_2 { x < v }
-    ensures { AroundListed v f w.old which x w.new result }
+pub fn list_around(w: &mut [u32], extent: Extent, which: Neighbours, x: u32) -> usize
+    requires fact_1 { Tidy extent.v extent.f w.old }
+    requires fact_2 { x < extent.v }
+    ensures { AroundListed extent.v extent.f w.old which x w.new result }
 {
-    let count = mesh::collect(w, v, f, x as usize, memory::near_from(v, f));
-    mark_wanted(w, v, f, count, which, x);
-    list_marked(w, v, f, count)
+    let count = mesh::collect(w, extent, x as usize, memory::near_from(extent));
+    mark_wanted(w, extent, count, which, x);
+    list_marked(w, extent, count)
 }

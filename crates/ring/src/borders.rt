@@ -11,48 +11,48 @@ ghost use Rattle.ring.specs.Clauses.Marking.{FacesListed, single, some_point};
 ghost use Rattle.memory.specs.Layout.{far_from, near_from};
 
 use crate::marking::{clear_faces, mark_faces};
-use memory::{face_in, mark_at, set_kind};
+use memory::{Extent, face_in, mark_at, set_kind};
 use mesh::collect;
 use placement::Kind;
 
 // Whether a point other than x has the mark 1.
-fn is_single(w: &[u32], v: usize, f: usize, x: usize, u: u32) -> bool
-    requires fact_1 { Room v f w.now }
-    requires fact_2 { u < v }
-    ensures { result ≡ single v f w.now x u }
+fn is_single(w: &[u32], extent: Extent, x: usize, u: u32) -> bool
+    requires fact_1 { Room extent.v extent.f w.now }
+    requires fact_2 { u < extent.v }
+    ensures { result ≡ single extent.v extent.f w.now x u }
 {
     let point = u as usize;
     if x == point {
         return false;
     }
-    mark_at(w, v, f, point) == 1
+    mark_at(w, extent, point) == 1
 }
 
 // Whether a face has a point other than x with the mark 1.
-fn face_has_single(w: &[u32], v: usize, f: usize, x: usize, k: usize) -> bool
-    requires fact_1 { Room v f w.now }
-    requires fact_2 { k < f }
-    requires fact_3 { proper v (face_at w.now k) ≡ true }
-    ensures { result ≡ some_point (single v f w.now x) (face_at w.now k) }
+fn face_has_single(w: &[u32], extent: Extent, x: usize, k: usize) -> bool
+    requires fact_1 { Room extent.v extent.f w.now }
+    requires fact_2 { k < extent.f }
+    requires fact_3 { proper extent.v (face_at w.now k) ≡ true }
+    ensures { result ≡ some_point (single extent.v extent.f w.now x) (face_at w.now k) }
 {
-    let p = face_in(w, f, k);
-    if is_single(w, v, f, x, p.a) {
+    let p = face_in(w, extent.f, k);
+    if is_single(w, extent, x, p.a) {
         return true;
     }
-    if is_single(w, v, f, x, p.b) {
+    if is_single(w, extent, x, p.b) {
         return true;
     }
-    is_single(w, v, f, x, p.c)
+    is_single(w, extent, x, p.c)
 }
 
 // Whether one of the listed faces has a point other than x with the mark 1.
-fn has_single(w: &[u32], v: usize, f: usize, x: usize, base: usize, n: usize) -> bool
-    requires fact_1 { Room v f w.now }
-    requires fact_2 { FacesListed v f w.now base n }
-    ensures { result ≡ some (λ k. some_point (single v f w.now x) (face_at w.now k)) (stretch w.now base n) }
+fn has_single(w: &[u32], extent: Extent, x: usize, base: usize, n: usize) -> bool
+    requires fact_1 { Room extent.v extent.f w.now }
+    requires fact_2 { FacesListed extent.v extent.f w.now base n }
+    ensures { result ≡ some (λ k. some_point (single extent.v extent.f w.now x) (face_at w.now k)) (stretch w.now base n) }
 {
     for &k in &w[base..base + n] {
-        if face_has_single(w, v, f, x, k as usize) {
+        if face_has_single(w, extent, x, k as usize) {
             return true;
         }
     }
@@ -60,29 +60,29 @@ fn has_single(w: &[u32], v: usize, f: usize, x: usize, base: usize, n: usize) ->
 }
 
 // Whether x is a border point. Only the cells of the faces around a point change.
-fn is_border(w: &mut [u32], v: usize, f: usize, x: usize) -> bool
-    requires fact_1 { Tidy v f w.old }
-    requires fact_2 { x < v }
-    ensures value { result ≡ border_point v (live_faces f w.old) x }
-    ensures but { But (near_from v f) (far_from v f) w.old w.new }
+fn is_border(w: &mut [u32], extent: Extent, x: usize) -> bool
+    requires fact_1 { Tidy extent.v extent.f w.old }
+    requires fact_2 { x < extent.v }
+    ensures value { result ≡ border_point extent.v (live_faces extent.f w.old) x }
+    ensures but { But (near_from extent.v extent.f) (far_from extent.v extent.f) w.old w.new }
 {
-    let base = memory::near_from(v, f);
-    let n = collect(w, v, f, x, base);
-    mark_faces(w, v, f, base, n);
-    let found = has_single(w, v, f, x, base, n);
-    clear_faces(w, v, f, base, n);
+    let base = memory::near_from(extent);
+    let n = collect(w, extent, x, base);
+    mark_faces(w, extent, base, n);
+    let found = has_single(w, extent, x, base, n);
+    clear_faces(w, extent, base, n);
     found
 }
 
 // The kind of a point that no margin names: border where border points are preserved, else free. Where they are not, no face is looked at.
-fn border_kind(w: &mut [u32], v: usize, f: usize, x: usize, preserve: bool) -> Kind
-    requires fact_1 { Tidy v f w.old }
-    requires fact_2 { x < v }
-    ensures value { result ≡ cond (preserve && border_point v (live_faces f w.old) x) Border Free }
-    ensures but { But (near_from v f) (far_from v f) w.old w.new }
+fn border_kind(w: &mut [u32], extent: Extent, x: usize, preserve: bool) -> Kind
+    requires fact_1 { Tidy extent.v extent.f w.old }
+    requires fact_2 { x < extent.v }
+    ensures value { result ≡ cond (preserve && border_point extent.v (live_faces extent.f w.old) x) Border Free }
+    ensures but { But (near_from extent.v extent.f) (far_from extent.v extent.f) w.old w.new }
 {
     if preserve {
-        if is_border(w, v, f, x) {
+        if is_border(w, extent, x) {
             return Kind::Border;
         }
     }
@@ -90,12 +90,12 @@ fn border_kind(w: &mut [u32], v: usize, f: usize, x: usize, preserve: bool) -> K
 }
 
 // Writes every point's kind, as it is without a margin.
-pub fn mark_borders(w: &mut [u32], v: usize, f: usize, preserve: bool)
-    requires { Tidy v f w.old }
-    ensures { Kinded v f preserve [] w.old w.new }
+pub fn mark_borders(w: &mut [u32], extent: Extent, preserve: bool)
+    requires { Tidy extent.v extent.f w.old }
+    ensures { Kinded extent.v extent.f preserve [] w.old w.new }
 {
-    for x in 0..v {
-        let kind = border_kind(w, v, f, x, preserve);
-        set_kind(w, v, f, x, u32::from(kind));
+    for x in 0..extent.v {
+        let kind = border_kind(w, extent, x, preserve);
+        set_kind(w, extent, x, u32::from(kind));
     }
 }

@@ -9,28 +9,28 @@ ghost use Rattle.meaning.specs.Start.{fixed_count};
 ghost use Rattle.ring.specs.Clauses.Kinds.{NamesPoints, Margined};
 
 use crate::borders::mark_borders;
-use memory::{kind_at, set_kind};
+use memory::{Extent, kind_at, set_kind};
 use placement::Kind;
 
 // Writes the kind of each margin point, whatever it was before: margin wins.
-fn mark_margin(w: &mut [u32], v: usize, f: usize, margin: &[u32])
-    requires fact_1 { Room v f w.old }
-    requires fact_2 { NamesPoints v margin.now }
-    ensures { Margined v f margin.now w.old w.new }
+fn mark_margin(w: &mut [u32], extent: Extent, margin: &[u32])
+    requires fact_1 { Room extent.v extent.f w.old }
+    requires fact_2 { NamesPoints extent.v margin.now }
+    ensures { Margined extent.v extent.f margin.now w.old w.new }
 {
     for &x in margin {
-        set_kind(w, v, f, x as usize, u32::from(Kind::Margin));
+        set_kind(w, extent, x as usize, u32::from(Kind::Margin));
     }
 }
 
 // How many points are fixed, by their kinds.
-fn count_fixed(w: &[u32], v: usize, f: usize) -> usize
-    requires { Room v f w.now }
-    ensures { result ≡ count (λ x. fixed (kind_of (kind v f w.now x))) (below v) }
+fn count_fixed(w: &[u32], extent: Extent) -> usize
+    requires { Room extent.v extent.f w.now }
+    ensures { result ≡ count (λ x. fixed (kind_of (kind extent.v extent.f w.now x))) (below extent.v) }
 {
     let mut n = 0;
-    for x in 0..v {
-        if Kind::from(kind_at(w, v, f, x)).is_fixed() {
+    for x in 0..extent.v {
+        if Kind::from(kind_at(w, extent, x)).is_fixed() {
             n += 1;
         }
     }
@@ -38,13 +38,13 @@ fn count_fixed(w: &[u32], v: usize, f: usize) -> usize
 }
 
 // Writes every point's kind, and says how many points are fixed.
-pub fn mark_kinds(w: &mut [u32], v: usize, f: usize, preserve: bool, margin: &[u32]) -> usize
-    requires fact_1 { Tidy v f w.old }
-    requires fact_2 { NamesPoints v margin.now }
-    ensures kinded { Kinded v f preserve margin.now w.old w.new }
-    ensures value { result ≡ fixed_count v (live_faces f w.old) preserve margin.now }
+pub fn mark_kinds(w: &mut [u32], extent: Extent, preserve: bool, margin: &[u32]) -> usize
+    requires fact_1 { Tidy extent.v extent.f w.old }
+    requires fact_2 { NamesPoints extent.v margin.now }
+    ensures kinded { Kinded extent.v extent.f preserve margin.now w.old w.new }
+    ensures value { result ≡ fixed_count extent.v (live_faces extent.f w.old) preserve margin.now }
 {
-    mark_borders(w, v, f, preserve);
-    mark_margin(w, v, f, margin);
-    count_fixed(w, v, f)
+    mark_borders(w, extent, preserve);
+    mark_margin(w, extent, margin);
+    count_fixed(w, extent)
 }

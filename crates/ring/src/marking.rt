@@ -5,7 +5,7 @@ ghost use Rattle.memory.specs.Memory.{Room, Unmarked, mark};
 ghost use Rattle.mesh.specs.Clauses.Around.{Marked, Cleared};
 ghost use Rattle.ring.specs.Clauses.Marking.{FacesListed, Remarked, FewMarks};
 
-use memory::{face_in, mark_at, set_mark};
+use memory::{Extent, face_in, mark_at, set_mark};
 
 // The slot at a place of a list.
 pub fn slot_at(w: &[u32], base: usize, i: usize) -> usize
@@ -16,75 +16,75 @@ pub fn slot_at(w: &[u32], base: usize, i: usize) -> usize
 }
 
 // Adds 1 to a point's mark, where the marks are still small.
-fn add_mark(w: &mut [u32], v: usize, f: usize, x: u32)
-    requires fact_1 { Room v f w.old }
-    requires fact_2 { x < v }
-    requires fact_3 { mark v f w.old x ≤ f + 1 }
-    ensures { Remarked v f (λ u m. m + cond (eqb u x) 1 0) w.old w.new }
+fn add_mark(w: &mut [u32], extent: Extent, x: u32)
+    requires fact_1 { Room extent.v extent.f w.old }
+    requires fact_2 { x < extent.v }
+    requires fact_3 { mark extent.v extent.f w.old x ≤ extent.f + 1 }
+    ensures { Remarked extent.v extent.f (λ u m. m + cond (eqb u x) 1 0) w.old w.new }
 {
     let point = x as usize;
-    let old = mark_at(w, v, f, point);
-    set_mark(w, v, f, point, old + 1);
+    let old = mark_at(w, extent, point);
+    set_mark(w, extent, point, old + 1);
 }
 
 // Adds 1 to the mark of each point of a face.
-fn mark_face(w: &mut [u32], v: usize, f: usize, k: usize)
-    requires fact_1 { Room v f w.old }
-    requires fact_2 { k < f }
-    requires fact_3 { proper v (face_at w.old k) ≡ true }
-    requires fact_4 { FewMarks v f w.old }
-    ensures { Remarked v f (λ u m. m + cond (holds u (face_at w.old k)) 1 0) w.old w.new }
+fn mark_face(w: &mut [u32], extent: Extent, k: usize)
+    requires fact_1 { Room extent.v extent.f w.old }
+    requires fact_2 { k < extent.f }
+    requires fact_3 { proper extent.v (face_at w.old k) ≡ true }
+    requires fact_4 { FewMarks extent.v extent.f w.old }
+    ensures { Remarked extent.v extent.f (λ u m. m + cond (holds u (face_at w.old k)) 1 0) w.old w.new }
 {
-    let p = face_in(w, f, k);
-    add_mark(w, v, f, p.a);
-    add_mark(w, v, f, p.b);
-    add_mark(w, v, f, p.c);
+    let p = face_in(w, extent.f, k);
+    add_mark(w, extent, p.a);
+    add_mark(w, extent, p.b);
+    add_mark(w, extent, p.c);
 }
 
 // Each of the listed faces adds 1 to the mark of each of its three points.
-pub fn mark_faces(w: &mut [u32], v: usize, f: usize, base: usize, n: usize)
-    requires fact_1 { Room v f w.old }
-    requires fact_2 { Unmarked v f w.old }
-    requires fact_3 { FacesListed v f w.old base n }
-    requires fact_4 { n ≤ f }
-    ensures { Marked v f w.old base n w.new }
+pub fn mark_faces(w: &mut [u32], extent: Extent, base: usize, n: usize)
+    requires fact_1 { Room extent.v extent.f w.old }
+    requires fact_2 { Unmarked extent.v extent.f w.old }
+    requires fact_3 { FacesListed extent.v extent.f w.old base n }
+    requires fact_4 { n ≤ extent.f }
+    ensures { Marked extent.v extent.f w.old base n w.new }
 {
     for i in 0..n {
         let k = slot_at(w, base, i);
-        mark_face(w, v, f, k);
+        mark_face(w, extent, k);
     }
 }
 
 // Sets a point's mark to 0.
-pub fn clear_mark(w: &mut [u32], v: usize, f: usize, x: u32)
-    requires fact_1 { Room v f w.old }
-    requires fact_2 { x < v }
-    ensures { Remarked v f (λ u m. cond (eqb u x) 0 m) w.old w.new }
+pub fn clear_mark(w: &mut [u32], extent: Extent, x: u32)
+    requires fact_1 { Room extent.v extent.f w.old }
+    requires fact_2 { x < extent.v }
+    ensures { Remarked extent.v extent.f (λ u m. cond (eqb u x) 0 m) w.old w.new }
 {
-    set_mark(w, v, f, x as usize, 0);
+    set_mark(w, extent, x as usize, 0);
 }
 
 // Sets the mark of each point of a face to 0.
-fn clear_face(w: &mut [u32], v: usize, f: usize, k: usize)
-    requires fact_1 { Room v f w.old }
-    requires fact_2 { k < f }
-    requires fact_3 { proper v (face_at w.old k) ≡ true }
-    ensures { Remarked v f (λ u m. cond (holds u (face_at w.old k)) 0 m) w.old w.new }
+fn clear_face(w: &mut [u32], extent: Extent, k: usize)
+    requires fact_1 { Room extent.v extent.f w.old }
+    requires fact_2 { k < extent.f }
+    requires fact_3 { proper extent.v (face_at w.old k) ≡ true }
+    ensures { Remarked extent.v extent.f (λ u m. cond (holds u (face_at w.old k)) 0 m) w.old w.new }
 {
-    let p = face_in(w, f, k);
-    clear_mark(w, v, f, p.a);
-    clear_mark(w, v, f, p.b);
-    clear_mark(w, v, f, p.c);
+    let p = face_in(w, extent.f, k);
+    clear_mark(w, extent, p.a);
+    clear_mark(w, extent, p.b);
+    clear_mark(w, extent, p.c);
 }
 
 // Sets the mark of each point of the listed faces to 0.
-pub fn clear_faces(w: &mut [u32], v: usize, f: usize, base: usize, n: usize)
-    requires fact_1 { Room v f w.old }
-    requires fact_2 { FacesListed v f w.old base n }
-    ensures { Cleared v f w.old base n w.new }
+pub fn clear_faces(w: &mut [u32], extent: Extent, base: usize, n: usize)
+    requires fact_1 { Room extent.v extent.f w.old }
+    requires fact_2 { FacesListed extent.v extent.f w.old base n }
+    ensures { Cleared extent.v extent.f w.old base n w.new }
 {
     for i in 0..n {
         let k = slot_at(w, base, i);
-        clear_face(w, v, f, k);
+        clear_face(w, extent, k);
     }
 }

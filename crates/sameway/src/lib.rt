@@ -11,7 +11,7 @@ ghost use Rattle.sameway.specs.Clauses.{ahead, end_of, Ordered, SeenBefore, Look
 
 // From which point an edge to each point was seen last stands in the cells for the points around a point: one more than its number.
 use memory::{
-    around_at as seen_at, around_from as seen_from, corner_at, first_at, next_at,
+    Extent, around_at as seen_at, around_from as seen_from, corner_at, first_at, next_at,
     set_around as set_seen,
 };
 
@@ -33,36 +33,36 @@ fn edge_end(w: &[u32], c: usize) -> usize
 }
 
 // The lowest corner at x whose edge leads where a lower one's does, or the number of all corners where there is none.
-fn first_repeat(w: &mut [u32], v: usize, f: usize, x: usize) -> usize
-    requires fact_1 { Ordered v f w.old }
-    requires fact_2 { x < v }
-    requires fact_3 { SeenBefore v f w.old x }
-    ensures { Looked v f w.old x w.new result }
+fn first_repeat(w: &mut [u32], extent: Extent, x: usize) -> usize
+    requires fact_1 { Ordered extent.v extent.f w.old }
+    requires fact_2 { x < extent.v }
+    requires fact_3 { SeenBefore extent.v extent.f w.old x }
+    ensures { Looked extent.v extent.f w.old x w.new result }
 {
     let here = (x + 1) as u32;
-    let mut link = first_at(w, f, x) as usize;
+    let mut link = first_at(w, extent.f, x) as usize;
     while link != 0 {
         let c = link - 1;
         let end = edge_end(w, c);
-        if seen_at(w, v, f, end) == here {
+        if seen_at(w, extent, end) == here {
             return c;
         }
-        set_seen(w, v, f, end, here);
-        link = next_at(w, f, c) as usize;
+        set_seen(w, extent, end, here);
+        link = next_at(w, extent.f, c) as usize;
     }
-    3 * f
+    3 * extent.f
 }
 
 // The lowest face that uses an edge from the same point to the same point as a lower face does, or the number of faces where none does.
-pub fn lowest_repeat(w: &mut [u32], v: usize, f: usize) -> usize
-    requires { Ordered v f w.old }
-    ensures lowest { Lowest f w.old result }
-    ensures but { But (seen_from v f) (folds_from v f) w.old w.new }
+pub fn lowest_repeat(w: &mut [u32], extent: Extent) -> usize
+    requires { Ordered extent.v extent.f w.old }
+    ensures lowest { Lowest extent.f w.old result }
+    ensures but { But (seen_from extent.v extent.f) (folds_from extent.v extent.f) w.old w.new }
 {
-    lists::fill(w, seen_from(v, f), v, 0);
-    let mut lowest = 3 * f;
-    for x in 0..v {
-        lowest = lowest.min(first_repeat(w, v, f, x));
+    lists::fill(w, seen_from(extent), extent.v, 0);
+    let mut lowest = 3 * extent.f;
+    for x in 0..extent.v {
+        lowest = lowest.min(first_repeat(w, extent, x));
     }
     lowest / 3
 }

@@ -9,16 +9,17 @@ ghost use Rattle.lists.specs.Puts.{Put};
 ghost use Rattle.records.specs.Words.{as_fours};
 ghost use Rattle.records.specs.Records.{record_bytes};
 ghost use Rattle.scanfile.specs.Files.{options_record};
+ghost use Rattle.scanwriter.specs.declared.WriteFault.TheVariants.{UnknownUnit};
 ghost use Rattle.scanwriter.specs.Written.{scan_contents, scan_bytes, scan_room, fault_number, fault_place, writing_of, ScanWritten};
 ghost use Rattle.scanwriter.specs.Clauses.{ScanFits};
 
 use bits::patterns::bits_of_f32;
 use records::{put_four, put_head, put_two};
-use scanfile::layout::{MOST_FACES, MOST_POINTS, POINTS_AT, SECOND_AT};
+use scanfile::layout::{MOST_FACES, MOST_POINTS, POINTS_AT, RecordKind, SECOND_AT};
 use units::Unit;
 
 // Why a mesh is not written.
-#[derive(Clone, Copy)]
+#[derive(Clone, Copy, PartialEq, Eq, Debug)]
 pub enum WriteFault {
     // A list's length is no multiple of 3.
     UnevenList,
@@ -54,6 +55,15 @@ impl WriteFault {
     }
 }
 
+// A number that is no unit's.
+impl From<units::UnknownUnit> for WriteFault {
+    ghost from_gives = { λ _ fault. fault ≡ UnknownUnit };
+
+    fn from(_number: units::UnknownUnit) -> WriteFault {
+        Self::UnknownUnit
+    }
+}
+
 // How many bytes writing takes, from the lengths of the lists and of the buffer, or why nothing is written.
 #[tactic(auto, using(units::proofs::UnitLaws::known_read), unfolding(crate::specs::Written::writing_of))]
 fn writing_of(unit: u32, points: usize, faces: usize, room: usize) -> Result<usize, WriteFault>
@@ -62,9 +72,7 @@ fn writing_of(unit: u32, points: usize, faces: usize, room: usize) -> Result<usi
     if points % 3 != 0 || faces % 3 != 0 {
         return Err(WriteFault::UnevenList);
     }
-    if Unit::try_from(unit).is_err() {
-        return Err(WriteFault::UnknownUnit);
-    }
+    Unit::try_from(unit)?;
     let v = points / 3;
     if MOST_POINTS < v {
         return Err(WriteFault::TooMany(SECOND_AT as u32));
@@ -86,7 +94,7 @@ fn put_options(file: &mut [u8], unit: u32) -> usize
     requires room { 18 ≤ length file.old }
     ensures { Put 18 (record_bytes (options_record (scan_contents unit [] []))) 0 file.old file.new result }
 {
-    let at_unit = put_head(file, 0, 12, 1);
+    let at_unit = put_head(file, 0, 12, u32::from(RecordKind::Options));
     let at_flags = put_two(file, at_unit, unit);
     let at_ratio = put_two(file, at_flags, 0);
     let at_limit = put_four(file, at_ratio, 0);
@@ -123,9 +131,19 @@ fn put_scan(file: &mut [u8], unit: u32, points: &[f32], faces: &[u32]) -> usize
     ensures { Put (scan_room (length points.now) (length faces.now)) (scan_bytes unit points.now faces.now) 0 file.old file.new result }
 {
     let second = put_options(file, unit);
-    let at_points = put_head(file, second, 4 * points.len() as u32, 2);
+    let at_points = put_head(
+        file,
+        second,
+        4 * points.len() as u32,
+        u32::from(RecordKind::Points),
+    );
     let third = put_points(file, at_points, points);
-    let at_faces = put_head(file, third, 4 * faces.len() as u32, 3);
+    let at_faces = put_head(
+        file,
+        third,
+        4 * faces.len() as u32,
+        u32::from(RecordKind::Faces),
+    );
     put_faces(file, at_faces, faces)
 }
 

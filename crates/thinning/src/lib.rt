@@ -13,6 +13,7 @@ ghost use Rattle.thinning.specs.Told.{options_of};
 ghost use Rattle.thinning.specs.Clauses.{Measured, Standing, copy_of, Zeroed, outcome_in, Finished};
 
 use meaning::{Answer, Options, Refusal, Rooms, Task};
+use memory::Extent;
 use walk::Closings;
 use walking::{Came, Engine, walked};
 
@@ -62,13 +63,13 @@ fn stuck(fixed: usize, closed: Closings) -> Answer
 }
 
 // Zeros to the stated part of the work memory.
-fn clear(w: &mut [u32], p: &mut [f32], q: &mut [f64], v: usize, f: usize)
-    requires { Working v f w.old p.old q.old }
-    ensures { Zeroed v f w.old p.old q.old w.new p.new q.new }
+fn clear(w: &mut [u32], p: &mut [f32], q: &mut [f64], extent: Extent)
+    requires { Working extent.v extent.f w.old p.old q.old }
+    ensures { Zeroed extent.v extent.f w.old p.old q.old w.new p.new q.new }
 {
-    w[..16 * v + 32 * f].fill(0);
-    p[..4 * v + 12 * f].fill(0.0);
-    q[..16 * v + 6 * f].fill(0.0);
+    w[..16 * extent.v + 32 * extent.f].fill(0);
+    p[..4 * extent.v + 12 * extent.f].fill(0.0);
+    q[..16 * extent.v + 6 * extent.f].fill(0.0);
 }
 
 // Ratio zero: the mesh is copied unchanged.
@@ -84,15 +85,17 @@ fn copied(
     requires { Measured (length points.now / 3) (length faces.now / 3) points.now faces.now (lent out_points.old out_faces.old w.old p.old q.old) }
     ensures { Leaves (length points.now / 3) (length faces.now / 3) (copy_of (length points.now / 3) (length faces.now / 3) points.now faces.now) (lent out_points.old out_faces.old w.old p.old q.old) (lent out_points.new out_faces.new w.new p.new q.new) result }
 {
-    let v = points.len() / 3;
-    let f = faces.len() / 3;
+    let extent = Extent {
+        v: points.len() / 3,
+        f: faces.len() / 3,
+    };
     output::copy_mesh(points, faces, out_points, out_faces);
-    clear(w, p, q, v, f);
+    clear(w, p, q, extent);
     Answer {
         number: 0,
         place: 0,
-        points: v as u32,
-        faces: f as u32,
+        points: extent.v as u32,
+        faces: extent.f as u32,
         folds: 0,
         closed: Closings::default(),
     }
@@ -103,23 +106,22 @@ fn answered(
     came: Came,
     w: &mut [u32],
     p: &[f32],
-    v: usize,
-    f: usize,
+    extent: Extent,
     out_points: &mut [f32],
     out_faces: &mut [u32],
 ) -> Answer
-    requires fact_1 { Tidy v f w.old }
-    requires fact_2 { 3 * v ≤ length p.now }
-    requires fact_3 { 3 * v ≤ length out_points.old }
-    requires fact_4 { 3 * f ≤ length out_faces.old }
-    requires fact_5 { (came.fixed ≤ v) × (came.folds ≤ f) }
-    ensures { Finished v f (outcome_in f came w.old p.now) w.old out_points.old out_faces.old w.new out_points.new out_faces.new result }
+    requires fact_1 { Tidy extent.v extent.f w.old }
+    requires fact_2 { 3 * extent.v ≤ length p.now }
+    requires fact_3 { 3 * extent.v ≤ length out_points.old }
+    requires fact_4 { 3 * extent.f ≤ length out_faces.old }
+    requires fact_5 { (came.fixed ≤ extent.v) × (came.folds ≤ extent.f) }
+    ensures { Finished extent.v extent.f (outcome_in extent.f came w.old p.now) w.old out_points.old out_faces.old w.new out_points.new out_faces.new result }
 {
     let closed = came.closed;
-    if (came.folds == 0) & (came.target < f) {
+    if (came.folds == 0) & (came.target < extent.f) {
         return stuck(came.fixed, closed);
     }
-    let counts = output::write_mesh(w, p, v, f, out_points, out_faces);
+    let counts = output::write_mesh(w, p, extent, out_points, out_faces);
     Answer {
         number: 0,
         place: 0,
@@ -133,19 +135,18 @@ fn answered(
 // Answers for the mesh that the walk has left, and clears the work memory.
 fn finished(
     came: Came,
-    v: usize,
-    f: usize,
+    extent: Extent,
     out_points: &mut [f32],
     out_faces: &mut [u32],
     w: &mut [u32],
     p: &mut [f32],
     q: &mut [f64],
 ) -> Answer
-    requires { Standing v f came (lent out_points.old out_faces.old w.old p.old q.old) }
-    ensures { Leaves v f (outcome_in f came w.old p.old) (lent out_points.old out_faces.old w.old p.old q.old) (lent out_points.new out_faces.new w.new p.new q.new) result }
+    requires { Standing extent.v extent.f came (lent out_points.old out_faces.old w.old p.old q.old) }
+    ensures { Leaves extent.v extent.f (outcome_in extent.f came w.old p.old) (lent out_points.old out_faces.old w.old p.old q.old) (lent out_points.new out_faces.new w.new p.new q.new) result }
 {
-    let answer = answered(came, w, p, v, f, out_points, out_faces);
-    clear(w, p, q, v, f);
+    let answer = answered(came, w, p, extent, out_points, out_faces);
+    clear(w, p, q, extent);
     answer
 }
 
@@ -167,9 +168,11 @@ fn admitted(
     ensures { ThinnedBy engine (input_of points.now faces.now margin.now options (lent out_points.old out_faces.old w.old p.old q.old)) (lent out_points.old out_faces.old w.old p.old q.old) (lent out_points.new out_faces.new w.new p.new q.new) folds.old folds.new result }
 {
     let came = walked(engine, points, faces, margin, options, w, p, q, folds);
-    let v = points.len() / 3;
-    let f = faces.len() / 3;
-    finished(came, v, f, out_points, out_faces, w, p, q)
+    let extent = Extent {
+        v: points.len() / 3,
+        f: faces.len() / 3,
+    };
+    finished(came, extent, out_points, out_faces, w, p, q)
 }
 
 // Thins a mesh and lists its folds: keep and remove of each, as far as there is room. The margin's points stay where they are.

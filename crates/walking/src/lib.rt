@@ -9,6 +9,7 @@ ghost use Rattle.meaning.specs.Call.{listed};
 ghost use Rattle.walking.specs.Clauses.{Layable, Walkable, LaidOut, bounds_of, WalkedBy, input_walked, MeshWalked};
 
 use meaning::Options;
+use memory::Extent;
 use placement::Bounds;
 use plainwalk::Walked;
 use units::Unit;
@@ -39,16 +40,15 @@ fn laid_out(
     w: &mut [u32],
     p: &mut [f32],
     q: &mut [f64],
-    v: usize,
-    f: usize,
+    extent: Extent,
 ) -> usize
-    requires { Layable v f points.now faces.now margin.now w.old p.old q.old }
-    ensures { LaidOut v f points.now faces.now preserve margin.now w.old p.old q.old w.new p.new q.new result }
+    requires { Layable extent.v extent.f points.now faces.now margin.now w.old p.old q.old }
+    ensures { LaidOut extent.v extent.f points.now faces.now preserve margin.now w.old p.old q.old w.new p.new q.new result }
 {
-    mesh::lay_faces(faces, w, v, f);
-    let fixed = ring::mark_kinds(w, v, f, preserve, margin);
-    mesh::lay_points(points, p, v);
-    mesh::lay_quadrics(w, p, q, v, f);
+    mesh::lay_faces(faces, w, extent);
+    let fixed = ring::mark_kinds(w, extent, preserve, margin);
+    mesh::lay_points(points, p, extent.v);
+    mesh::lay_quadrics(w, p, q, extent);
     fixed
 }
 
@@ -70,27 +70,26 @@ fn walk_by(
     w: &mut [u32],
     p: &mut [f32],
     q: &mut [f64],
-    v: usize,
-    f: usize,
+    extent: Extent,
     target: usize,
     bounds: Bounds,
 ) -> Walked
-    requires { Walkable v f w.old p.old q.old }
-    ensures { WalkedBy engine v f target bounds.limit bounds.size w.old p.old q.old w.new p.new q.new result }
+    requires { Walkable extent.v extent.f w.old p.old q.old }
+    ensures { WalkedBy engine extent.v extent.f target bounds.limit bounds.size w.old p.old q.old w.new p.new q.new result }
 {
     match engine {
-        Engine::Plain => plainwalk::plain_walk(w, p, q, v, f, target, bounds),
-        Engine::Heap => heapwalk::heap_walk(w, p, q, v, f, target, bounds),
+        Engine::Plain => plainwalk::plain_walk(w, p, q, extent, target, bounds),
+        Engine::Heap => heapwalk::heap_walk(w, p, q, extent, target, bounds),
     }
 }
 
 // Lists the folds that a walk has written down, as far as there is room.
-fn list_folds(w: &[u32], v: usize, f: usize, made: usize, folds: &mut [u32])
-    requires fact_1 { Room v f w.now }
-    requires fact_2 { made ≤ f }
-    ensures { folds.new ≡ listed (folds_in v f w.now made) folds.old }
+fn list_folds(w: &[u32], extent: Extent, made: usize, folds: &mut [u32])
+    requires fact_1 { Room extent.v extent.f w.now }
+    requires fact_2 { made ≤ extent.f }
+    ensures { folds.new ≡ listed (folds_in extent.v extent.f w.now made) folds.old }
 {
-    let from = memory::folds_from(v, f);
+    let from = memory::folds_from(extent);
     let n = folds.len().min(2 * made);
     folds[..n].copy_from_slice(&w[from..from + n]);
 }
@@ -111,13 +110,15 @@ pub fn walked(
     requires fact_2 { known_unit options.unit ≡ true }
     ensures { MeshWalked engine (input_walked points.now faces.now margin.now options) w.old p.old q.old w.new p.new q.new folds.old folds.new result }
 {
-    let v = points.len() / 3;
-    let f = faces.len() / 3;
+    let extent = Extent {
+        v: points.len() / 3,
+        f: faces.len() / 3,
+    };
     let bounds = bounds_of(options);
-    let target = bits::cut::target(options.ratio, f as u32) as usize;
-    let fixed = laid_out(points, faces, margin, options.preserve, w, p, q, v, f);
-    let walked = walk_by(engine, w, p, q, v, f, target, bounds);
-    list_folds(w, v, f, walked.folds, folds);
+    let target = bits::cut::target(options.ratio, extent.f as u32) as usize;
+    let fixed = laid_out(points, faces, margin, options.preserve, w, p, q, extent);
+    let walked = walk_by(engine, w, p, q, extent, target, bounds);
+    list_folds(w, extent, walked.folds, folds);
     let closed = walked.closed;
     Came {
         target,

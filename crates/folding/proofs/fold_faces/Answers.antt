@@ -16,23 +16,23 @@ use Rattle.folding.proofs.fold_faces.Goals.{After-relist, After-set_first-2, Sta
 -- ---- what the steps leave
 -- each list stands above the cells that change, and within the memory
 near-stands : (c : Start) →
-    (kinds_from c.args.v c.args.f ≤ c.args.ring.near) × (c.args.ring.near + c.args.f ≤ length c.args.w.now)
+    (kinds_from c.args.extent.v c.args.extent.f ≤ c.args.ring.near) × (c.args.ring.near + c.args.extent.f ≤ length c.args.w.now)
 near-stands c = omega arith
 
 far-stands : (c : Start) →
-    (kinds_from c.args.v c.args.f ≤ c.args.ring.far) × (c.args.ring.far + c.args.f ≤ length c.args.w.now)
+    (kinds_from c.args.extent.v c.args.extent.f ≤ c.args.ring.far) × (c.args.ring.far + c.args.extent.f ≤ length c.args.w.now)
 far-stands c = omega arith
 
 -- the faces that hold both are dead, and the chains of both points are dropped
 both-dropped : (c : After-set_first-2) →
-    Dropped c.args.v c.args.f c.args.w.now c.args.keep c.args.remove c.requires.fact_1.listed c.set_first-2.new.w
+    Dropped c.args.extent.v c.args.extent.f c.args.w.now c.args.keep c.args.remove c.requires.fact_1.listed c.set_first-2.new.w
 both-dropped c =
     dropped c.requires.fact_1 c.requires.fact_2.0 c.requires.fact_2.1 c.requires.fact_3 c.kill-gone.ensures.0 c.set_first.ensures
     c.set_first-2.ensures
 
 -- keep's faces are listed again
 near-listed : (c : After-relist) →
-    Relisted c.args.v c.args.f c.args.keep (λ d. lives c.args.f c.set_first-2.new.w (d / 3) && eqb (corner c.args.w.now d) c.args.keep) c.set_first-2.new.w c.relist.new.w
+    Relisted c.args.extent.v c.args.extent.f c.args.keep (λ d. lives c.args.extent.f c.set_first-2.new.w (d / 3) && eqb (corner c.args.w.now d) c.args.keep) c.set_first-2.new.w c.relist.new.w
 near-listed c =
     near_again c.requires.fact_1 c.requires.fact_2.0 (both-dropped c.before.before.before.before) c.requires.fact_3 (near-stands c.before.before.before.before.before.before.before.before.before.before.before.before.before.before.before).0 c.relist.ensures
 

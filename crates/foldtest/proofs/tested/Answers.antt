@@ -13,11 +13,11 @@ tested_faces-requires c =
 pub returns : goal.returns
 returns c =
     record {
-      value = tested-by-faces c.args.v c.args.f c.args.w.now c.args.p.now c.args.fold.keep c.args.fold.remove c.args.fold.place c.is_linked.ensures.value c.if-not-is_linked.false
+      value = tested-by-faces c.args.extent.v c.args.extent.f c.args.w.now c.args.p.now c.args.fold.keep c.args.fold.remove c.args.fold.place c.is_linked.ensures.value c.if-not-is_linked.false
           c.is_linked.ensures.w_unchanged c.tested_faces.ensures;
       w_unchanged = c.is_linked.ensures.w_unchanged;
     }
 
 pub returns-then-not-is_linked : goal.returns-then-not-is_linked
 returns-then-not-is_linked c =
-    record { value = tested-unlinked c.args.v c.args.f c.args.w.now c.args.p.now c.args.fold.keep c.args.fold.remove c.args.fold.place c.is_linked.ensures.value c.if-not-is_linked.true; w_unchanged = c.is_linked.ensures.w_unchanged }
+    record { value = tested-unlinked c.args.extent.v c.args.extent.f c.args.w.now c.args.p.now c.args.fold.keep c.args.fold.remove c.args.fold.place c.is_linked.ensures.value c.if-not-is_linked.true; w_unchanged = c.is_linked.ensures.w_unchanged }

@@ -9,16 +9,16 @@ lowest_around-k-requires c = record { fact_1 = c.requires.fact_1; fact_2 = c.req
 
 pub face_in-requires : goal.face_in-requires
 face_in-requires c =
-    (c.if-k-f.true, omega (arith, c.requires.fact_1.room))
+    (c.if-k-extent.true, omega (arith, c.requires.fact_1.room))
 
 pub tested_face-requires : goal.tested_face-requires
 tested_face-requires c =
-    face-placed c.args.v c.face_in.ensures
-    (c.requires.fact_1.faces_proper _ c.if-k-f.true (c.lowest_around-k.ensures.found c.if-k-f.true).0) c.requires.fact_2
+    face-placed c.args.extent.v c.face_in.ensures
+    (c.requires.fact_1.faces_proper _ c.if-k-extent.true (c.lowest_around-k.ensures.found c.if-k-extent.true).0) c.requires.fact_2
 
-pub returns-then-k-f : goal.returns-then-k-f
-returns-then-k-f c =
-    faces-refuse c.lowest_around-k.ensures c.if-k-f.true c.face_in.ensures c.tested_face.ensures
+pub returns-then-k-extent : goal.returns-then-k-extent
+returns-then-k-extent c =
+    faces-refuse c.lowest_around-k.ensures c.if-k-extent.true c.face_in.ensures c.tested_face.ensures
 
 pub returns : goal.returns
-returns c = faces-allow c.lowest_around-k.ensures c.if-k-f.false
+returns c = faces-allow c.lowest_around-k.ensures c.if-k-extent.false

@@ -8,7 +8,7 @@ use Rattle.heapwalk.proofs.heap_step.Goals as goal
 use Rattle.heapwalk.proofs.heap_step.Goals.{In-Some}
 
 -- the first current entry was taken off
-taken : (c : In-Some) → TakenOff c.args.v c.args.f c.args.w.now c.args.p.now c.args.q.now c.args.entries c.take_first.new.w c.take_first.new.p c.take_first.new.q c.in-Some.top c.in-Some.left
+taken : (c : In-Some) → TakenOff c.args.extent.v c.args.extent.f c.args.w.now c.args.p.now c.args.q.now c.args.entries c.take_first.new.w c.take_first.new.p c.take_first.new.q c.in-Some.top c.in-Some.left
 taken c =
     took-entry c.take_first.new.w c.take_first.new.p c.take_first.new.q c.in-Some.is c.take_first.ensures
 

@@ -10,7 +10,7 @@ use Rattle.heapwalk.proofs.try_pair.Goals as goal
 use Rattle.heapwalk.proofs.try_pair.Goals.{In-Ok}
 
 -- what the fold came to
-made : (c : In-Ok) → FoldTried c.args.v c.args.f c.args.bounds.limit c.args.bounds.size c.args.w.now c.args.p.now c.args.q.now c.args.fold.keep c.args.fold.remove
+made : (c : In-Ok) → FoldTried c.args.extent.v c.args.extent.f c.args.bounds.limit c.args.bounds.size c.args.w.now c.args.p.now c.args.q.now c.args.fold.keep c.args.fold.remove
     c.try_fold.new.w c.try_fold.new.p c.try_fold.new.q (Ok c.in-Ok.gone)
 made c =
     tried-as c.in-Ok.is (c.try_fold.ensures c.args.bounds.limit c.args.bounds.size c.requires.same_place)

@@ -12,7 +12,7 @@ use Rattle.heapwalk.proofs.walk_on.Goals as goal
 pub loop-pair-init : goal.loop-pair-init
 loop-pair-init c =
     rw (default-closed {closed = c.default-closed.result} c.default-closed.ensures)
-    (chaining-start c.args.v c.args.f c.args.target c.args.bounds.limit c.args.bounds.size _ c.requires)
+    (chaining-start c.args.extent.v c.args.extent.f c.args.target c.args.bounds.limit c.args.bounds.size _ c.requires)
 
 pub heap_step-paced-requires : goal.heap_step-paced-requires
 heap_step-paced-requires c = c.loop-pair.invariant.walking.going.holds

@@ -9,7 +9,7 @@ use Rattle.heapwalk.proofs.walk_on.Given as goal
 
 abbrev pub invariant-loop-pair : goal.invariant-loop-pair
 invariant-loop-pair l =
-    Chaining l.v l.f l.target l.bounds.limit l.bounds.size (moment l.initial.w l.initial.p l.initial.q l.entries l.live) (moment l.w l.p l.q l.queued l.faces_live) l.folds l.closed
+    Chaining l.extent.v l.extent.f l.target l.bounds.limit l.bounds.size (moment l.initial.w l.initial.p l.initial.q l.entries l.live) (moment l.w l.p l.q l.queued l.faces_live) l.folds l.closed
 
 abbrev pub decreases-loop-pair : goal.decreases-loop-pair
-decreases-loop-pair l = budget l.f (heap_state l.v l.f l.w l.p l.q l.queued)
+decreases-loop-pair l = budget l.extent.f (heap_state l.extent.v l.extent.f l.w l.p l.q l.queued)

@@ -10,12 +10,12 @@ use Rattle.plainwalk.proofs.try_pair.Goals as goal
 use Rattle.plainwalk.proofs.try_pair.Goals.{In-Ok, In-Err}
 
 -- what it came to
-made : (c : In-Ok) → FoldTried c.args.v c.args.f c.args.bounds.limit c.args.bounds.size c.args.w.now c.args.p.now c.args.q.now c.args.least.fold.keep c.args.least.fold.remove
+made : (c : In-Ok) → FoldTried c.args.extent.v c.args.extent.f c.args.bounds.limit c.args.bounds.size c.args.w.now c.args.p.now c.args.q.now c.args.least.fold.keep c.args.least.fold.remove
     c.try_fold.new.w c.try_fold.new.p c.try_fold.new.q (Ok c.in-Ok.gone)
 made c =
     tried-as c.in-Ok.is (c.try_fold.ensures c.args.bounds.limit c.args.bounds.size c.requires.fact_2.place)
 
-refused : (c : In-Err) → FoldTried c.args.v c.args.f c.args.bounds.limit c.args.bounds.size c.args.w.now c.args.p.now c.args.q.now c.args.least.fold.keep c.args.least.fold.remove
+refused : (c : In-Err) → FoldTried c.args.extent.v c.args.extent.f c.args.bounds.limit c.args.bounds.size c.args.w.now c.args.p.now c.args.q.now c.args.least.fold.keep c.args.least.fold.remove
     c.try_fold.new.w c.try_fold.new.p c.try_fold.new.q (Err c.in-Err.reason)
 refused c =
     tried-as c.in-Err.is (c.try_fold.ensures c.args.bounds.limit c.args.bounds.size c.requires.fact_2.place)

@@ -10,7 +10,7 @@ use Rattle.plainwalk.proofs.walk_on.Goals as goal
 pub loop-pair-init : goal.loop-pair-init
 loop-pair-init c =
     rw (default-closed {closed = c.default-closed.result} c.default-closed.ensures)
-    (counting-start (plain c.args.v c.args.f) c.args.target c.args.bounds.limit c.args.bounds.size _ c.requires)
+    (counting-start (plain c.args.extent.v c.args.extent.f) c.args.target c.args.bounds.limit c.args.bounds.size _ c.requires)
 
 pub plain_step-stepped-requires : goal.plain_step-stepped-requires
 plain_step-stepped-requires c = c.loop-pair.invariant.walking.going.holds

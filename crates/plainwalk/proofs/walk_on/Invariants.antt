@@ -9,7 +9,7 @@ use Rattle.plainwalk.proofs.walk_on.Given as goal
 
 abbrev pub invariant-loop-pair : goal.invariant-loop-pair
 invariant-loop-pair l =
-    Counting (plain l.v l.f) l.target l.bounds.limit l.bounds.size (moment l.initial.w l.initial.p l.initial.q l.open l.live) (moment l.w l.p l.q l.pairs_open l.faces_live) l.folds l.closed
+    Counting (plain l.extent.v l.extent.f) l.target l.bounds.limit l.bounds.size (moment l.initial.w l.initial.p l.initial.q l.open l.live) (moment l.w l.p l.q l.pairs_open l.faces_live) l.folds l.closed
 
 abbrev pub decreases-loop-pair : goal.decreases-loop-pair
-decreases-loop-pair l = budget l.f (state_of l.v l.f l.w l.p l.q l.pairs_open)
+decreases-loop-pair l = budget l.extent.f (state_of l.extent.v l.extent.f l.w l.p l.q l.pairs_open)

@@ -5,7 +5,7 @@ use Rattle.queue.proofs.ThrowLaws.{Gathering}
 use Rattle.queue.proofs.gather_current.Given as goal
 
 abbrev pub invariant-loop-i : goal.invariant-loop-i
-invariant-loop-i l = (l.i ≤ l.n) × Gathering l.v l.f l.initial.w l.initial.p l.initial.q l.n l.w l.p l.q l.kept l.i
+invariant-loop-i l = (l.i ≤ l.n) × Gathering l.extent.v l.extent.f l.initial.w l.initial.p l.initial.q l.n l.w l.p l.q l.kept l.i
 
 abbrev pub decreases-loop-i : goal.decreases-loop-i
 decreases-loop-i l = l.n - l.i

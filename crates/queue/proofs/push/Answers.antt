@@ -7,7 +7,7 @@ use Rattle.queue.proofs.push.Goals as goal
 use Rattle.queue.proofs.push.Goals.{After-entry_of-entry}
 
 -- the entry has the stamps of before
-entry-is : (c : After-entry_of-entry) → c.entry_of-entry.result ≡ entry_of c.args.v c.args.f c.args.w.now c.args.fold.keep c.args.fold.remove c.args.cost c.args.fold.place
+entry-is : (c : After-entry_of-entry) → c.entry_of-entry.result ≡ entry_of c.args.extent.v c.args.extent.f c.args.w.now c.args.fold.keep c.args.fold.remove c.args.cost c.args.fold.place
 entry-is c =
     c.entry_of-entry.ensures ∙ entry-only c.args.cost c.args.fold.place c.make_room-count.ensures.fewer.only c.requires.fact_3.0 c.requires.fact_3.1
 

@@ -11,7 +11,7 @@ use Rattle.queue.proofs.take_current.Goals.{After-pop-top}
 
 -- the one on top was taken off them
 popped : (c : After-pop-top) →
-    Popped c.args.v c.args.f c.loop-left.w c.loop-left.p c.loop-left.q c.loop-left.left c.pop-top.new.w c.pop-top.new.p c.pop-top.new.q c.pop-top.result
+    Popped c.args.extent.v c.args.extent.f c.loop-left.w c.loop-left.p c.loop-left.q c.loop-left.left c.pop-top.new.w c.pop-top.new.p c.pop-top.new.q c.pop-top.result
 popped c = let same : c.loop-left.left - 1 + 1 ≡ c.loop-left.left = omega (arith, c.loop-left-test.true) in rw same at c.pop-top.ensures
 
 pub loop-left-init : goal.loop-left-init

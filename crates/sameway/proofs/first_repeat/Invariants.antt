@@ -4,7 +4,7 @@ use Rattle.sameway.proofs.LookLaws.{Looking, left}
 use Rattle.sameway.proofs.first_repeat.Given as goal
 
 abbrev pub invariant-loop-link : goal.invariant-loop-link
-invariant-loop-link l = Looking l.v l.f l.initial.w l.x l.w l.link
+invariant-loop-link l = Looking l.extent.v l.extent.f l.initial.w l.x l.w l.link
 
 abbrev pub decreases-loop-link : goal.decreases-loop-link
-decreases-loop-link l = left l.f l.link
+decreases-loop-link l = left l.extent.f l.link

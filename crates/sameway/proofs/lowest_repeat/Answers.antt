@@ -16,13 +16,13 @@ loop-x-init c = lowest_start c.around_from.ensures c.fill.ensures
 
 pub first_repeat-requires : goal.first_repeat-requires
 first_repeat-requires c =
-    let but = but-then (cleared c.args.v c.args.f c.around_from.ensures c.fill.ensures) c.loop-x.invariant.but in
-    record { fact_1 = still-ordered c.args.v c.args.f c.args.w.now c.loop-x.w but c.requires; fact_2 = c.loop-x-test.true; fact_3 = c.loop-x.invariant.seen-before }
+    let but = but-then (cleared c.args.extent.v c.args.extent.f c.around_from.ensures c.fill.ensures) c.loop-x.invariant.but in
+    record { fact_1 = still-ordered c.args.extent.v c.args.extent.f c.args.w.now c.loop-x.w but c.requires; fact_2 = c.loop-x-test.true; fact_3 = c.loop-x.invariant.seen-before }
 
 pub loop-x-preserved : goal.loop-x-preserved
 loop-x-preserved c = lowest-turn c.loop-x.invariant c.first_repeat.ensures (omega arith)
 
 pub returns : goal.returns
 returns c =
-    let but = cleared c.args.v c.args.f c.around_from.ensures c.fill.ensures in
+    let but = cleared c.args.extent.v c.args.extent.f c.around_from.ensures c.fill.ensures in
     record { lowest = lowest-end but c.requires c.loop-x.invariant c.loop-x-test.false; but = but-then but c.loop-x.invariant.but }

@@ -4,4 +4,4 @@ use Rattle.sameway.proofs.LowestLaws.{Lowering}
 use Rattle.sameway.proofs.lowest_repeat.Given as goal
 
 abbrev pub invariant-loop-x : goal.invariant-loop-x
-invariant-loop-x l = Lowering l.v l.f l.initial.w l.w l.lowest l.x
+invariant-loop-x l = Lowering l.extent.v l.extent.f l.initial.w l.w l.lowest l.x

@@ -9,5 +9,5 @@ put_options-second-requires c = record { two_bytes = number_short _ c.requires.u
 
 pub returns : goal.returns
 returns c =
-    scan-put _ _ _ c.requires c.put_options-second.ensures c.put_head-at_points.ensures c.put_points-third.ensures c.put_head-at_faces.ensures
-    c.put_faces.ensures
+    scan-put _ _ _ c.requires c.put_options-second.ensures (rw c.from.ensures at c.put_head-at_points.ensures) c.put_points-third.ensures
+    (rw c.from-2.ensures at c.put_head-at_faces.ensures) c.put_faces.ensures

@@ -6,8 +6,8 @@ use Rattle.thinning.proofs.MemoryLaws.{used-fits, live-fits, written-finished}
 use Rattle.walking.proofs.FitLaws.{below-fits}
 use Rattle.thinning.proofs.answered.Goals as goal
 
-pub returns-then-came-f : goal.returns-then-came-f
-returns-then-came-f c = rw c.if-came-f.true (record { but = but-refl _ _ _; answered = c.stuck.ensures; points_written = refl; faces_written = refl })
+pub returns-then-came-extent : goal.returns-then-came-extent
+returns-then-came-extent c = rw c.if-came-extent.true (record { but = but-refl _ _ _; answered = c.stuck.ensures; points_written = refl; faces_written = refl })
 
 pub overflow_cast-result : goal.overflow_cast-result
 overflow_cast-result c = used-fits c.requires.fact_1 c.write_mesh-counts.ensures.points_counted
@@ -20,4 +20,4 @@ overflow_cast-result-3 c = below-fits c.requires.fact_5.1 c.requires.fact_1.room
 
 pub returns : goal.returns
 returns c =
-    rw c.if-came-f.false (written-finished c.args.came.folds c.args.came.closed c.write_mesh-counts.ensures)
+    rw c.if-came-extent.false (written-finished c.args.came.folds c.args.came.closed c.write_mesh-counts.ensures)

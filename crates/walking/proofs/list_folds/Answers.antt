@@ -11,5 +11,5 @@ use Rattle.walking.proofs.list_folds.Goals as goal
 pub returns : goal.returns
 returns c =
     ap (λ (new : List ℕ). new ++ drop c.min-n.result c.args.folds.now) c.copy_from_slice.ensures.after
-    ∙ row-listed c.args.v c.args.f c.args.w.now c.args.made c.args.folds.now c.folds_from-from.ensures
+    ∙ row-listed c.args.extent.v c.args.extent.f c.args.w.now c.args.made c.args.folds.now c.folds_from-from.ensures
     (omega (arith, c.min-n.ensures)) (omega (arith, c.min-n.ensures, c.folds_from-from.ensures, c.requires.fact_1.long, c.requires.fact_2))

@@ -1,6 +1,5 @@
 -- `walking::walked` meets its contract: the mesh is laid out, walked and its folds listed, and what stands in memory then is the last mesh of the input.
 -- Assumes nothing.
-use Rattle.walking.proofs.FitLaws.{few-fits}
 use mathlib.Core.Path.{◌≡◌}
 use Rattle.meaning.specs.Outcome.{target_of}
 use Rattle.walking.specs.Clauses.{input_walked}
@@ -15,9 +14,6 @@ aim c = c.target-target.ensures
 
 pub bounds_of-bounds-requires : goal.bounds_of-bounds-requires
 bounds_of-bounds-requires c = c.requires.fact_2
-
-pub overflow_cast-f : goal.overflow_cast-f
-overflow_cast-f c = few-fits c.requires.fact_1.working.u32s.faces_few
 
 pub laid_out-fixed-requires : goal.laid_out-fixed-requires
 laid_out-fixed-requires c = c.requires.fact_1

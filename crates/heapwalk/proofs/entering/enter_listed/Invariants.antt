@@ -9,8 +9,8 @@ use Rattle.heapwalk.proofs.entering.enter_listed.Given as goal
 abbrev pub invariant-loop-i : goal.invariant-loop-i
 invariant-loop-i l =
     (l.i ≤ l.count)
-    × EnteredBeside l.v l.f l.initial.w l.initial.p l.initial.q l.n l.bounds.limit l.bounds.size (pairs_with l.v l.f l.initial.w l.initial.p l.initial.q l.bounds.limit l.bounds.size l.x (around_in l.v l.f l.initial.w l.i)) l.w l.p l.q l.entries
-    × ReadBefore l.v l.f l.w l.q l.count l.i l.near
+    × EnteredBeside l.extent.v l.extent.f l.initial.w l.initial.p l.initial.q l.n l.bounds.limit l.bounds.size (pairs_with l.extent.v l.extent.f l.initial.w l.initial.p l.initial.q l.bounds.limit l.bounds.size l.x (around_in l.extent.v l.extent.f l.initial.w l.i)) l.w l.p l.q l.entries
+    × ReadBefore l.extent.v l.extent.f l.w l.q l.count l.i l.near
 
 abbrev pub decreases-loop-i : goal.decreases-loop-i
 decreases-loop-i l = l.count - l.i

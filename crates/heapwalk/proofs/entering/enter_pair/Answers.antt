@@ -14,12 +14,12 @@ use Rattle.heapwalk.proofs.entering.enter_pair.Goals.{After-pair_candidate}
 candidate : (c : After-pair_candidate) →
     c.pair_candidate.result
     ≡ pair_candidate c.args.bounds.limit c.args.bounds.size
-    (vertex_at c.args.v c.args.f c.args.w.now c.args.p.now c.args.q.now c.args.x)
-    (vertex_at c.args.v c.args.f c.args.w.now c.args.p.now c.args.q.now c.args.y)
+    (vertex_at c.args.extent.v c.args.extent.f c.args.w.now c.args.p.now c.args.q.now c.args.x)
+    (vertex_at c.args.extent.v c.args.extent.f c.args.w.now c.args.p.now c.args.q.now c.args.y)
 candidate c =
     c.pair_candidate.ensures
     ∙ ap₂ (pair_candidate c.args.bounds.limit c.args.bounds.size) c.vertex_at-stays.ensures
-    (c.vertex_with-goes.ensures ∙ ap (vertex_with c.args.v c.args.f c.args.w.now c.args.p.now c.args.y) c.requires.fact_2)
+    (c.vertex_with-goes.ensures ∙ ap (vertex_with c.args.extent.v c.args.extent.f c.args.w.now c.args.p.now c.args.y) c.requires.fact_2)
 
 pub vertex_at-stays-requires : goal.vertex_at-stays-requires
 vertex_at-stays-requires c =

@@ -8,7 +8,7 @@ use Rattle.heapwalk.proofs.entering.read_ahead.Goals.{After-read_part}
 
 -- the part that was read
 part : (c : After-read_part) →
-    PartRead c.args.v c.args.f c.args.w.now c.args.q.now c.args.i (part_of (c.args.count - c.args.i)) c.args.near.now c.read_part.new.near
+    PartRead c.args.extent.v c.args.extent.f c.args.w.now c.args.q.now c.args.i (part_of (c.args.count - c.args.i)) c.args.near.now c.read_part.new.near
 part c = rw c.min-some.ensures at c.read_part.ensures
 
 pub read_part-requires : goal.read_part-requires

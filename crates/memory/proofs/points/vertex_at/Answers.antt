@@ -6,4 +6,4 @@ use Rattle.memory.proofs.points.vertex_at.Goals as goal
 
 pub returns : goal.returns
 returns c =
-    c.vertex_with.ensures ∙ ap (vertex_with c.args.v c.args.f c.args.w.now c.args.p.now c.args.x) c.quadric_at.ensures
+    c.vertex_with.ensures ∙ ap (vertex_with c.args.extent.v c.args.extent.f c.args.w.now c.args.p.now c.args.x) c.quadric_at.ensures

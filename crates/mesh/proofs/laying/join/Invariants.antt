@@ -4,4 +4,4 @@ use Rattle.mesh.proofs.JoinLaws.{Joining}
 use Rattle.mesh.proofs.laying.join.Given as goal
 
 abbrev pub invariant-loop-c : goal.invariant-loop-c
-invariant-loop-c l = Joining l.v l.f l.initial.w l.w l.c
+invariant-loop-c l = Joining l.extent.v l.extent.f l.initial.w l.w l.c

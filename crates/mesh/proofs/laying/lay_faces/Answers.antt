@@ -10,7 +10,7 @@ use Rattle.mesh.proofs.laying.lay_faces.Goals as goal
 use Rattle.mesh.proofs.laying.lay_faces.Goals.{After-copy}
 
 -- the faces stand in the first cells
-copied-faces : (c : After-copy) → Written 0 (3 * c.args.f) (λ i. get_or c.args.faces.now i 0) c.args.w.now c.copy.new.out
+copied-faces : (c : After-copy) → Written 0 (3 * c.args.extent.f) (λ i. get_or c.args.faces.now i 0) c.args.w.now c.copy.new.out
 copied-faces c = copy_written c.args.faces.now c.requires.fact_2 (omega (arith, c.requires.fact_1.long)) c.copy.ensures
 
 -- ---- the needs

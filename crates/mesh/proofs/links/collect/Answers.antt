@@ -7,12 +7,12 @@ use Rattle.mesh.proofs.links.collect.Goals as goal
 use Rattle.mesh.proofs.links.collect.Goals.{In-loop-link, Then-is_live}
 
 -- the link names a corner
-corner-inside : (c : In-loop-link) → c.loop-link.link - 1 < 3 * c.args.f
+corner-inside : (c : In-loop-link) → c.loop-link.link - 1 < 3 * c.args.extent.f
 corner-inside c = inside (omega arith) c.loop-link-test.true c.loop-link.invariant
 
 -- where the corner's face is live there is room for it
 room-left : (c : Then-is_live) →
-    c.loop-link.n < c.args.f
+    c.loop-link.n < c.args.extent.f
 room-left c =
     some-room (omega arith) c.loop-link-test.true c.loop-link.invariant
     c.next_at-link.ensures c.is_live.ensures c.if-is_live.true

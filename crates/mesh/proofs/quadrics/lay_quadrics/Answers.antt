@@ -8,7 +8,7 @@ use Rattle.mesh.proofs.quadrics.lay_quadrics.Goals as goal
 use Rattle.mesh.proofs.quadrics.lay_quadrics.Goals.{After-face_in-face}
 
 -- the face that was read has its points among the v
-face-corners : (c : After-face_in-face) → Corners c.args.v c.face_in-face.result
+face-corners : (c : After-face_in-face) → Corners c.args.extent.v c.face_in-face.result
 face-corners c =
     corners _ _ (rw c.face_in-face.ensures (c.requires.fact_2 c.loop-k.k c.loop-k-test.true))
 
@@ -32,5 +32,5 @@ loop-k-preserved c = (
 
 pub returns : goal.returns
 returns c =
-    let done : c.args.f ≡ c.loop-k.k = omega arith in
+    let done : c.args.extent.f ≡ c.loop-k.k = omega arith in
     quadrics-then c.start_quadrics.ensures (rw done c.loop-k.invariant.1)

@@ -6,4 +6,4 @@ use Rattle.mesh.proofs.QuadricLaws.{gathered_to}
 use Rattle.mesh.proofs.quadrics.lay_quadrics.Given as goal
 
 abbrev pub invariant-loop-k : goal.invariant-loop-k
-invariant-loop-k l = (l.k ≤ l.f) × QuadricsAre l.v (gathered_to l.w l.p l.k) l.initial.q l.q
+invariant-loop-k l = (l.k ≤ l.extent.f) × QuadricsAre l.extent.v (gathered_to l.w l.p l.k) l.initial.q l.q

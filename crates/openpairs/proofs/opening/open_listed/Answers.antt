@@ -10,7 +10,7 @@ use Rattle.openpairs.proofs.opening.open_listed.Goals.{Then-is_eligible, then-is
 
 -- where the pair is eligible there is a place for it
 place : (c : Then-is_eligible) →
-    c.loop-i.now_open < 3 * c.args.f
+    c.loop-i.now_open < 3 * c.args.extent.f
 place c =
     opening-place c.loop-i.invariant.1 c.requires c.loop-i-test.true c.around_at-y.ensures
     (sym c.is_eligible.ensures ∙ c.if-is_eligible.true)

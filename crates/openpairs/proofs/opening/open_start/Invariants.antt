@@ -5,7 +5,7 @@ use Rattle.openpairs.proofs.StartLaws.{Starting}
 use Rattle.openpairs.proofs.opening.open_start.Given as goal
 
 abbrev pub invariant-loop-x : goal.invariant-loop-x
-invariant-loop-x l = (l.x ≤ l.v) × Starting l.v l.f l.initial.w l.p l.q l.bounds.limit l.bounds.size l.w l.n l.x
+invariant-loop-x l = (l.x ≤ l.extent.v) × Starting l.extent.v l.extent.f l.initial.w l.p l.q l.bounds.limit l.bounds.size l.w l.n l.x
 
 abbrev pub decreases-loop-x : goal.decreases-loop-x
-decreases-loop-x l = l.v - l.x
+decreases-loop-x l = l.extent.v - l.x

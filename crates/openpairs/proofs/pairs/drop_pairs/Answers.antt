@@ -11,7 +11,7 @@ use Rattle.openpairs.proofs.pairs.drop_pairs.Goals.{After-is_apart, then-is_apar
 
 -- it is the one in its place
 here : (c : After-is_apart) →
-    (pair_of c.keep_at-first.result c.remove_at-second.result) ≡ pair_at c.args.v c.args.f c.loop-i.w c.loop-i.i
+    (pair_of c.keep_at-first.result c.remove_at-second.result) ≡ pair_at c.args.extent.v c.args.extent.f c.loop-i.w c.loop-i.i
 here c = pair_path c.keep_at-first.ensures c.remove_at-second.ensures
 
 pub loop-i-init : goal.loop-i-init

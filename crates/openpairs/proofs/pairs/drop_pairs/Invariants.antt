@@ -5,7 +5,7 @@ use Rattle.openpairs.proofs.DropLaws.{Dropping}
 use Rattle.openpairs.proofs.pairs.drop_pairs.Given as goal
 
 abbrev pub invariant-loop-i : goal.invariant-loop-i
-invariant-loop-i l = (l.i ≤ l.n) × Dropping l.v l.f l.initial.w l.keep l.remove l.w l.kept l.i
+invariant-loop-i l = (l.i ≤ l.n) × Dropping l.extent.v l.extent.f l.initial.w l.keep l.remove l.w l.kept l.i
 
 abbrev pub decreases-loop-i : goal.decreases-loop-i
 decreases-loop-i l = l.n - l.i

@@ -7,5 +7,5 @@ use Rattle.openpairs.proofs.pairs.ranked_at.Goals as goal
 
 pub returns : goal.returns
 returns c =
-    ranked-is c.args.v c.args.f c.args.w.now c.args.p.now c.args.q.now c.args.bounds.size c.args.i c.keep_at-keep.ensures c.remove_at-remove.ensures
+    ranked-is c.args.extent.v c.args.extent.f c.args.w.now c.args.p.now c.args.q.now c.args.bounds.size c.args.i c.keep_at-keep.ensures c.remove_at-remove.ensures
     (c.pair_cost-cost.ensures ∙ ap (λ ends. pair_cost c.args.bounds.size ends.0 ends.1) c.ends_at.ensures)

@@ -9,7 +9,7 @@ use Rattle.output.proofs.writing.number_of.Goals.{Else-kept-ne0}
 
 -- where there is no mark there is room
 room : (c : Else-kept-ne0) →
-    (c.args.met < c.args.v)
+    (c.args.met < c.args.extent.v)
     × (3 * c.args.met + 2 < length c.args.out_points.now)
 room c =
     room-known c.args.x c.requires.fact_2 c.mark_at-kept.result c.mark_at-kept.ensures

@@ -8,15 +8,15 @@ use Rattle.output.proofs.writing.write_face.Goals as goal
 
 pub number_of-a-requires : goal.number_of-a-requires
 number_of-a-requires c =
-    record { fact_1 = c.requires.fact_1; fact_2 = (corners-low c.args.v c.args.face c.requires.fact_2).0; fact_3 = c.requires.fact_3; fact_4 = c.requires.fact_5 }
+    record { fact_1 = c.requires.fact_1; fact_2 = (corners-low c.args.extent.v c.args.face c.requires.fact_2).0; fact_3 = c.requires.fact_3; fact_4 = c.requires.fact_5 }
 
 pub number_of-b-requires : goal.number_of-b-requires
 number_of-b-requires c =
-    record { fact_1 = room-then c.requires.fact_1 c.number_of-a.ensures; fact_2 = (corners-low c.args.v c.args.face c.requires.fact_2).1; fact_3 = c.requires.fact_3; fact_4 = known-then c.requires.fact_5 c.number_of-a.ensures }
+    record { fact_1 = room-then c.requires.fact_1 c.number_of-a.ensures; fact_2 = (corners-low c.args.extent.v c.args.face c.requires.fact_2).1; fact_3 = c.requires.fact_3; fact_4 = known-then c.requires.fact_5 c.number_of-a.ensures }
 
 pub number_of-c-requires : goal.number_of-c-requires
 number_of-c-requires c =
-    record { fact_1 = room-then (room-then c.requires.fact_1 c.number_of-a.ensures) c.number_of-b.ensures; fact_2 = (corners-low c.args.v c.args.face c.requires.fact_2).2; fact_3 = c.requires.fact_3; fact_4 = known-then (known-then c.requires.fact_5 c.number_of-a.ensures) c.number_of-b.ensures }
+    record { fact_1 = room-then (room-then c.requires.fact_1 c.number_of-a.ensures) c.number_of-b.ensures; fact_2 = (corners-low c.args.extent.v c.args.face c.requires.fact_2).2; fact_3 = c.requires.fact_3; fact_4 = known-then (known-then c.requires.fact_5 c.number_of-a.ensures) c.number_of-b.ensures }
 
 pub put_face-requires : goal.put_face-requires
 put_face-requires c =

@@ -8,7 +8,7 @@ use Rattle.output.proofs.writing.write_mesh.Goals.{At-loop-k, In-loop-k, then-is
 
 -- the turn
 reading : (c : At-loop-k) →
-    Turn c.args.v c.args.f c.args.p.now c.args.w.now c.args.out_points.now c.args.out_faces.now
+    Turn c.args.extent.v c.args.extent.f c.args.p.now c.args.w.now c.args.out_points.now c.args.out_faces.now
     c.loop-k.w c.loop-k.out_points c.loop-k.out_faces c.loop-k.counts c.loop-k.k
 reading c = c.loop-k.invariant
 

@@ -4,4 +4,4 @@ use Rattle.output.proofs.SlotLaws.{Turn}
 use Rattle.output.proofs.writing.write_mesh.Given as goal
 
 abbrev pub invariant-loop-k : goal.invariant-loop-k
-invariant-loop-k l = Turn l.v l.f l.p l.initial.w l.initial.out_points l.initial.out_faces l.w l.out_points l.out_faces l.counts l.k
+invariant-loop-k l = Turn l.extent.v l.extent.f l.p l.initial.w l.initial.out_points l.initial.out_faces l.w l.out_points l.out_faces l.counts l.k

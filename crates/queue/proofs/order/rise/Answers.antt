@@ -16,7 +16,7 @@ apart c e = absurd (omega arith)
 
 pub loop-hole-init : goal.loop-hole-init
 loop-hole-init c =
-    (moving-start c.args.entry (omega (arith, c.requires.fact_1.inside)) c.requires.fact_1.inside c.requires.fact_1.enough, rising-hole c.args.v c.args.f c.args.n c.args.w.now c.args.p.now c.args.q.now c.args.entry c.requires.fact_2)
+    (moving-start c.args.entry (omega (arith, c.requires.fact_1.inside)) c.requires.fact_1.inside c.requires.fact_1.enough, rising-hole c.args.extent.v c.args.extent.f c.args.n c.args.w.now c.args.p.now c.args.q.now c.args.entry c.requires.fact_2)
 
 pub ranked_in-requires : goal.ranked_in-requires
 ranked_in-requires c =
@@ -35,7 +35,7 @@ pub returns-then-not-comes_first : goal.returns-then-not-comes_first
 returns-then-not-comes_first c =
     sunk c.loop-hole.invariant.0
     (rising-done c.loop-hole.invariant.1
-    (λ above. own-above c.args.v c.args.f c.loop-hole.w c.loop-hole.p c.loop-hole.q c.loop-hole.hole c.args.entry (apart (goal.at.returns-then-not-comes_first c).After-comes_first)
+    (λ above. own-above c.args.extent.v c.args.extent.f c.loop-hole.w c.loop-hole.p c.loop-hole.q c.loop-hole.hole c.args.entry (apart (goal.at.returns-then-not-comes_first c).After-comes_first)
     c.ranked_of.ensures c.ranked_in.ensures c.comes_first.ensures (ap not c.if-not-comes_first.true)))
 
 pub move_entry-requires : goal.move_entry-requires
@@ -47,7 +47,7 @@ loop-hole-smaller c = omega arith
 
 pub loop-hole-preserved : goal.loop-hole-preserved
 loop-hole-preserved c =
-    let lower = own-lower c.args.v c.args.f c.loop-hole.w c.loop-hole.p c.loop-hole.q c.loop-hole.hole c.args.entry (apart (goal.at.loop-hole-preserved c).After-comes_first)
+    let lower = own-lower c.args.extent.v c.args.extent.f c.loop-hole.w c.loop-hole.p c.loop-hole.q c.loop-hole.hole c.args.entry (apart (goal.at.loop-hole-preserved c).After-comes_first)
     c.ranked_of.ensures c.ranked_in.ensures c.comes_first.ensures
     (ap not c.if-not-comes_first.false) in (
       moving-turn c.args.entry (apart (goal.at.loop-hole-preserved c).After-comes_first) c.move_entry.ensures c.loop-hole.invariant.1.within (omega arith) c.loop-hole.invariant.0,

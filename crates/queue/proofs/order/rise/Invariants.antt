@@ -9,7 +9,7 @@ use Rattle.queue.proofs.order.rise.Given as goal
 
 abbrev pub invariant-loop-hole : goal.invariant-loop-hole
 invariant-loop-hole l =
-    Moving l.v l.f (l.n + 1) l.initial.w l.initial.p l.initial.q l.n l.entry l.w l.p l.q l.hole × Rising (ranks (filled (entry_in l.v l.f l.w l.p l.q) l.hole l.entry)) (l.n + 1) l.hole
+    Moving l.extent.v l.extent.f (l.n + 1) l.initial.w l.initial.p l.initial.q l.n l.entry l.w l.p l.q l.hole × Rising (ranks (filled (entry_in l.extent.v l.extent.f l.w l.p l.q) l.hole l.entry)) (l.n + 1) l.hole
 
 abbrev pub decreases-loop-hole : goal.decreases-loop-hole
 decreases-loop-hole l = l.hole

@@ -16,7 +16,7 @@ entry_at-entry-requires c =
 
 pub sift_down-requires : goal.sift_down-requires
 sift_down-requires c =
-    record { fact_1 = record { enough = c.loop-lo.invariant.1.enough; few = c.loop-lo.invariant.1.few; inside = omega (arith, c.loop-lo.invariant.1.few, c.loop-lo.invariant.0) }; fact_2 = heap-higher (ranks (entry_in c.args.v c.args.f c.loop-lo.w c.loop-lo.p c.loop-lo.q)) (omega arith) c.loop-lo.invariant.1.ordered }
+    record { fact_1 = record { enough = c.loop-lo.invariant.1.enough; few = c.loop-lo.invariant.1.few; inside = omega (arith, c.loop-lo.invariant.1.few, c.loop-lo.invariant.0) }; fact_2 = heap-higher (ranks (entry_in c.args.extent.v c.args.extent.f c.loop-lo.w c.loop-lo.p c.loop-lo.q)) (omega arith) c.loop-lo.invariant.1.ordered }
 
 pub loop-lo-preserved : goal.loop-lo-preserved
 loop-lo-preserved c =

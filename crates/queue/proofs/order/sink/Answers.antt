@@ -21,7 +21,7 @@ apart c e = absurd (omega (arith, c.least_under-first.ensures.positive, c.least_
 
 pub loop-hole-init : goal.loop-hole-init
 loop-hole-init c =
-    (moving-start c.args.entry c.requires.fact_1.few c.requires.fact_1.inside c.requires.fact_1.enough, sinking-hole c.args.v c.args.f c.args.lo c.args.w.now c.args.p.now c.args.q.now c.args.entry c.requires.fact_2)
+    (moving-start c.args.entry c.requires.fact_1.few c.requires.fact_1.inside c.requires.fact_1.enough, sinking-hole c.args.extent.v c.args.extent.f c.args.lo c.args.w.now c.args.p.now c.args.q.now c.args.entry c.requires.fact_2)
 
 pub overflow_mul-hole : goal.overflow_mul-hole
 overflow_mul-hole c = omega (arith, fits (goal.at.overflow_mul-hole c).At-loop-hole)
@@ -50,8 +50,8 @@ pub returns-then-not-comes_first : goal.returns-then-not-comes_first
 returns-then-not-comes_first c =
     sunk c.loop-hole.invariant.0
     (sinking-stop c.loop-hole.invariant.1
-    (lowest-filled c.args.v c.args.f c.loop-hole.w c.loop-hole.p c.loop-hole.q c.loop-hole.hole c.args.entry c.least_under-first.ensures)
-    (there-above c.args.v c.args.f c.loop-hole.w c.loop-hole.p c.loop-hole.q c.loop-hole.hole c.args.entry (apart (goal.at.returns-then-not-comes_first c).After-comes_first)
+    (lowest-filled c.args.extent.v c.args.extent.f c.loop-hole.w c.loop-hole.p c.loop-hole.q c.loop-hole.hole c.args.entry c.least_under-first.ensures)
+    (there-above c.args.extent.v c.args.extent.f c.loop-hole.w c.loop-hole.p c.loop-hole.q c.loop-hole.hole c.args.entry (apart (goal.at.returns-then-not-comes_first c).After-comes_first)
     c.ranked_of.ensures c.ranked_in.ensures c.comes_first.ensures (ap not c.if-not-comes_first.true)))
 
 pub move_entry-requires : goal.move_entry-requires
@@ -64,12 +64,12 @@ loop-hole-smaller c =
 
 pub loop-hole-preserved : goal.loop-hole-preserved
 loop-hole-preserved c =
-    let lower = there-lower c.args.v c.args.f c.loop-hole.w c.loop-hole.p c.loop-hole.q c.loop-hole.hole c.args.entry (apart (goal.at.loop-hole-preserved c).After-comes_first)
+    let lower = there-lower c.args.extent.v c.args.extent.f c.loop-hole.w c.loop-hole.p c.loop-hole.q c.loop-hole.hole c.args.entry (apart (goal.at.loop-hole-preserved c).After-comes_first)
     c.ranked_of.ensures c.ranked_in.ensures c.comes_first.ensures
     (ap not c.if-not-comes_first.false) in (
       moving-turn c.args.entry (apart (goal.at.loop-hole-preserved c).After-comes_first) c.move_entry.ensures (omega arith) c.least_under-first.ensures.within c.loop-hole.invariant.0,
       sinking-moved c.args.entry (apart (goal.at.loop-hole-preserved c).After-comes_first) c.move_entry.ensures c.loop-hole.invariant.1
-          (lowest-filled c.args.v c.args.f c.loop-hole.w c.loop-hole.p c.loop-hole.q c.loop-hole.hole c.args.entry c.least_under-first.ensures) (omega (arith, lower)),
+          (lowest-filled c.args.extent.v c.args.extent.f c.loop-hole.w c.loop-hole.p c.loop-hole.q c.loop-hole.hole c.args.entry c.least_under-first.ensures) (omega (arith, lower)),
     )
 
 pub shape_of-w : goal.shape_of-w

@@ -9,7 +9,7 @@ use Rattle.queue.proofs.order.sink.Given as goal
 
 abbrev pub invariant-loop-hole : goal.invariant-loop-hole
 invariant-loop-hole l =
-    Moving l.v l.f l.n l.initial.w l.initial.p l.initial.q l.lo l.entry l.w l.p l.q l.hole × Sinking l.lo (ranks (filled (entry_in l.v l.f l.w l.p l.q) l.hole l.entry)) l.n l.hole
+    Moving l.extent.v l.extent.f l.n l.initial.w l.initial.p l.initial.q l.lo l.entry l.w l.p l.q l.hole × Sinking l.lo (ranks (filled (entry_in l.extent.v l.extent.f l.w l.p l.q) l.hole l.entry)) l.n l.hole
 
 abbrev pub decreases-loop-hole : goal.decreases-loop-hole
 decreases-loop-hole l = l.n - l.hole

@@ -8,7 +8,7 @@ use Rattle.ring.proofs.around.list_around.Goals.{After-collect-count}
 
 -- the faces are gathered where the laws look for them
 gathered : (c : After-collect-count) →
-    Collected c.args.v c.args.f c.args.w.now c.args.x (near_from c.args.v c.args.f) c.collect-count.new.w c.collect-count.result
+    Collected c.args.extent.v c.args.extent.f c.args.w.now c.args.x (near_from c.args.extent.v c.args.extent.f) c.collect-count.new.w c.collect-count.result
 gathered c = collected-from c.near_from.ensures c.collect-count.ensures
 
 -- ---- the needs

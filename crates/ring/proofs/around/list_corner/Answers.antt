@@ -7,7 +7,7 @@ use Rattle.ring.proofs.around.list_corner.Goals.{After-clear_mark}
 
 -- past the test the mark is taken off
 unmark : (c : After-clear_mark) →
-    Unmark c.args.v c.args.f c.args.w.now c.args.n c.args.y c.clear_mark.new.w
+    Unmark c.args.extent.v c.args.extent.f c.args.w.now c.args.n c.args.y c.clear_mark.new.w
 unmark c =
     record {
       ready = c.requires.fact_1;

@@ -5,8 +5,8 @@ use Rattle.ring.proofs.TakeLaws.{taken_then, ready-after}
 use Rattle.ring.proofs.around.list_face.Goals as goal
 use Rattle.ring.proofs.around.list_face.Goals.{Start}
 
-points : (c : Start) → Corners c.args.v c.args.face
-points c = corners c.args.v c.args.face c.requires.fact_2
+points : (c : Start) → Corners c.args.extent.v c.args.face
+points c = corners c.args.extent.v c.args.face c.requires.fact_2
 
 pub list_corner-first-requires : goal.list_corner-first-requires
 list_corner-first-requires c =

@@ -4,4 +4,4 @@ use Rattle.ring.proofs.TakeLaws.{Taking}
 use Rattle.ring.proofs.around.list_marked.Given as goal
 
 abbrev pub invariant-loop-i : goal.invariant-loop-i
-invariant-loop-i l = Taking l.v l.f l.initial.w 0 l.i l.w l.n
+invariant-loop-i l = Taking l.extent.v l.extent.f l.initial.w 0 l.i l.w l.n

@@ -7,8 +7,8 @@ use Rattle.ring.proofs.WantedLaws.{marks-face}
 use Rattle.ring.proofs.around.mark_face.Goals as goal
 use Rattle.ring.proofs.around.mark_face.Goals.{Start}
 
-points : (c : Start) → Corners c.args.v c.args.face
-points c = corners c.args.v c.args.face c.requires.fact_2
+points : (c : Start) → Corners c.args.extent.v c.args.face
+points c = corners c.args.extent.v c.args.face c.requires.fact_2
 
 pub mark_corner-requires : goal.mark_corner-requires
 mark_corner-requires c = record { fact_1 = search rules; fact_2 = (points (goal.at.mark_corner-requires c).Start).a_below }

@@ -8,7 +8,7 @@ use Rattle.ring.proofs.around.mark_wanted.Goals as goal
 use Rattle.ring.proofs.around.mark_wanted.Goals.{At-loop-i}
 
 -- what a turn begins with: the memory as it was, but for marks
-framed : (c : At-loop-i) → Framed c.args.v c.args.f c.args.w.now c.loop-i.w
+framed : (c : At-loop-i) → Framed c.args.extent.v c.args.extent.f c.args.w.now c.loop-i.w
 framed c = framed-marks c.loop-i.invariant.so_far.but
 
 pub loop-i-init : goal.loop-i-init

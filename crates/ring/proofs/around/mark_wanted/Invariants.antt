@@ -7,4 +7,4 @@ use Rattle.ring.proofs.WantedLaws.{Marking}
 use Rattle.ring.proofs.around.mark_wanted.Given as goal
 
 abbrev pub invariant-loop-i : goal.invariant-loop-i
-invariant-loop-i l = Marking l.v l.f (λ u face. holds u face && wanted l.which l.x u face) l.initial.w l.i l.w
+invariant-loop-i l = Marking l.extent.v l.extent.f (λ u face. holds u face && wanted l.which l.x u face) l.initial.w l.i l.w

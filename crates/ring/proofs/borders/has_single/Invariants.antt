@@ -7,4 +7,4 @@ use Rattle.ring.proofs.borders.has_single.Given as goal
 
 abbrev pub invariant-loop-k : goal.invariant-loop-k
 invariant-loop-k l =
-    NoneOf (λ k. some_point (single l.v l.f l.w l.x) (face_at l.w k)) l.w l.base l.k-index
+    NoneOf (λ k. some_point (single l.extent.v l.extent.f l.w l.x) (face_at l.w k)) l.w l.base l.k-index

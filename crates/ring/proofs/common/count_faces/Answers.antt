@@ -8,7 +8,7 @@ use Rattle.ring.proofs.common.count_faces.Goals as goal
 use Rattle.ring.proofs.common.count_faces.Goals.{After-slot_at-k}
 
 next : (c : After-slot_at-k) →
-    Next c.args.v c.args.f c.args.w.now c.loop-i.w c.args.base c.loop-i.i c.slot_at-k.result
+    Next c.args.extent.v c.args.extent.f c.args.w.now c.loop-i.w c.args.base c.loop-i.i c.slot_at-k.result
 next c = next-slot c.requires.fact_2 c.loop-i.invariant.remarked.but c.loop-i-test.true c.slot_at-k.ensures
 
 pub loop-i-init : goal.loop-i-init

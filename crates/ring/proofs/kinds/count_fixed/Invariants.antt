@@ -4,4 +4,4 @@ use Rattle.ring.proofs.KindLaws.{CountedTo}
 use Rattle.ring.proofs.kinds.count_fixed.Given as goal
 
 abbrev pub invariant-loop-x : goal.invariant-loop-x
-invariant-loop-x l = CountedTo l.v l.f l.w l.n l.x
+invariant-loop-x l = CountedTo l.extent.v l.extent.f l.w l.n l.x

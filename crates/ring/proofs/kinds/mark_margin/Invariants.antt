@@ -4,4 +4,4 @@ use Rattle.ring.proofs.KindLaws.{Marked}
 use Rattle.ring.proofs.kinds.mark_margin.Given as goal
 
 abbrev pub invariant-loop-x : goal.invariant-loop-x
-invariant-loop-x l = Marked l.v l.f l.margin l.initial.w l.w l.x-index
+invariant-loop-x l = Marked l.extent.v l.extent.f l.margin l.initial.w l.w l.x-index

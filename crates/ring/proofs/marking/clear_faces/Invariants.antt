@@ -4,4 +4,4 @@ use Rattle.mesh.specs.Clauses.Around.{Cleared}
 use Rattle.ring.proofs.marking.clear_faces.Given as goal
 
 abbrev pub invariant-loop-i : goal.invariant-loop-i
-invariant-loop-i l = Cleared l.v l.f l.initial.w l.base l.i l.w
+invariant-loop-i l = Cleared l.extent.v l.extent.f l.initial.w l.base l.i l.w

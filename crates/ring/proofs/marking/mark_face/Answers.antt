@@ -7,7 +7,7 @@ use Rattle.ring.proofs.marking.mark_face.Goals as goal
 use Rattle.ring.proofs.marking.mark_face.Goals.{After-face_in-p}
 
 -- the corners of the face that was read
-points : (c : After-face_in-p) → Corners c.args.v c.face_in-p.result
+points : (c : After-face_in-p) → Corners c.args.extent.v c.face_in-p.result
 points c = corners-read _ c.face_in-p.ensures c.requires.fact_3
 
 pub add_mark-requires : goal.add_mark-requires

@@ -4,4 +4,4 @@ use Rattle.mesh.specs.Clauses.Around.{Marked}
 use Rattle.ring.proofs.marking.mark_faces.Given as goal
 
 abbrev pub invariant-loop-i : goal.invariant-loop-i
-invariant-loop-i l = Marked l.v l.f l.initial.w l.base l.i l.w
+invariant-loop-i l = Marked l.extent.v l.extent.f l.initial.w l.base l.i l.w
