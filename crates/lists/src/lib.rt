@@ -18,5 +18,7 @@ pub fn copy<T: Copy>(list: &[T], out: &mut [T])
     requires { length list.now ≤ length out.old }
     ensures { out.new ≡ overlaid list.now out.old }
 {
-    out[..list.len()].copy_from_slice(list);
+    for i in 0..list.len() {
+        out[i] = list[i];
+    }
 }

@@ -63,6 +63,20 @@ fn zeros<T: Copy + Default, const N: usize>() -> [T; N]
     [T::default(); N]
 }
 
+// The cells that a file is read into.
+pub fn input_cells() -> [u8; INPUT_ROOM]
+    ensures { 5157 ≡ length result }
+{
+    zeros()
+}
+
+// The cells that a reply is written into.
+pub fn text_cells() -> [u8; TEXT_ROOM]
+    ensures { 12288 ≡ length result }
+{
+    zeros()
+}
+
 // ---- the reply
 
 // Writes the line of a refusal.

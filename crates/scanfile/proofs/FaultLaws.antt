@@ -1,13 +1,13 @@
--- A record that nothing refuses.
+-- A record that nothing refuses, and what each refusal comes from.
 -- Assumes nothing.
-use Prim.Native.Nat.{ℕ, ◌+◌, ◌%◌, ◌≤◌}
+use Prim.Native.Nat.{ℕ, ◌+◌, ◌%◌, ◌≤◌, ◌<◌}
 use native.Mathlib.Omega.{arith}
 use mathlib.Core.Path.{◌≡◌, refl}
 use mathlib.Core.List.{List}
 use mathlib.Core.Bool.{Bool, true, false, not}
 use lib.Dec.{ltb, eqb}
 use lib.ListN.{length}
-use borrow.Author.Tests.{ltb-false, eqb-true, le-ltb, eq-eqb, not-false}
+use borrow.Author.Tests.{ltb-false, eqb-true, lt-ltb, le-ltb, eq-eqb, ne_eqb, not-false}
 use Rattle.records.specs.Records.{head_length, size_at, kind_at, next_at}
 use Rattle.units.specs.Units.{known_unit}
 use Rattle.std.specs.Prelude.{Ok, Err}
@@ -36,6 +36,28 @@ none-holds false false false false true h = absurd (not_passed h)
 none-holds false false false false false h = (refl, refl, refl, refl, refl)
 
 module _ (bytes : List ℕ) (kind : ℕ) (at : ℕ) where
+  pub head-cut : length bytes < at + head_length → record_fault bytes kind at ≡ Err CutShort
+  unfolding record_fault
+  head-cut short = rw (lt-ltb _ _ short)
+
+  pub kind-wrong : at + head_length ≤ length bytes → (kind_at bytes at ≡ kind → ⊥) → record_fault bytes kind at ≡ Err OtherKind
+  unfolding record_fault
+  kind-wrong head other = rw (le-ltb _ _ head, ne_eqb _ _ other)
+
+  module _ (head : at + head_length ≤ length bytes) (right : kind_at bytes at ≡ kind) where
+    pub size-wrong : wrong_size kind (size_at bytes at) ≡ true → record_fault bytes kind at ≡ Err WrongSize
+    unfolding record_fault
+    size-wrong wrong = rw (le-ltb _ _ head, eq-eqb _ _ right, wrong)
+
+    pub too_many : wrong_size kind (size_at bytes at) ≡ false → most_of kind < size_at bytes at → record_fault bytes kind at ≡ Err TooMany
+    unfolding record_fault
+    too_many sized many = rw (le-ltb _ _ head, eq-eqb _ _ right, sized, lt-ltb _ _ many)
+
+    pub payload_cut : wrong_size kind (size_at bytes at) ≡ false → size_at bytes at ≤ most_of kind → length bytes < next_at bytes at →
+        record_fault bytes kind at ≡ Err CutShort
+    unfolding record_fault
+    payload_cut sized few short = rw (le-ltb _ _ head, eq-eqb _ _ right, sized, le-ltb _ _ few, lt-ltb _ _ short)
+
   pub passes : GoodRecord bytes kind at → record_fault bytes kind at ≡ Ok tt
   unfolding record_fault
   passes p =
@@ -61,6 +83,9 @@ module _ (bytes : List ℕ) (kind : ℕ) (at : ℕ) where
 
 pub options-size : {bytes : List ℕ} {at : ℕ} → GoodRecord bytes 1 at → size_at bytes at ≡ 12
 options-size p = eqb-true _ _ (not-false _ p.size_right)
+
+pub whole-size : {bytes : List ℕ} {kind at : ℕ} → eqb kind 1 ≡ false → eqb kind 4 ≡ false → GoodRecord bytes kind at → size_at bytes at % 12 ≡ 0
+whole-size no-options no-margin p = eqb-true _ _ (not-false _ (rw (no-options, no-margin) at p.size_right))
 
 pub points-size : {bytes : List ℕ} {at : ℕ} → GoodRecord bytes 2 at → size_at bytes at % 12 ≡ 0
 points-size p = eqb-true _ _ (not-false _ p.size_right)

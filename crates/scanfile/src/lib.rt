@@ -12,7 +12,7 @@ ghost use Rattle.scanfile.specs.Clauses.{ThreeThere, PointsThere, FacesThere, Nu
 use faults::{check_options, check_record, has_head};
 use layout::{FLAGS_AT, LIMIT_AT, POINTS_AT, RATIO_AT, RecordKind, SECOND_AT, UNIT_AT};
 use records::{HEAD_LENGTH, float_at, four_bytes, two_bytes};
-use units::Unit;
+use units::{Unit, unit_of};
 
 pub mod faults;
 pub mod layout;
@@ -47,7 +47,7 @@ fn head_of(bytes: &[u8], third: usize, margin: usize) -> Head
     let flags = two_bytes(bytes, FLAGS_AT);
     let limit = (flags / 2 % 2 == 1).then_some(float_at(bytes, LIMIT_AT));
     Head {
-        unit: Unit::try_from(two_bytes(bytes, UNIT_AT)).unwrap(),
+        unit: unit_of(two_bytes(bytes, UNIT_AT)),
         preserve: flags % 2 == 1,
         limit,
         ratio: float_at(bytes, RATIO_AT),

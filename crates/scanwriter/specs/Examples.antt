@@ -6,7 +6,7 @@ use Rattle.records.specs.Words.{as_fours}
 use Rattle.records.specs.Records.{records_bytes}
 use Rattle.scanwriter.specs.declared.WriteFault.{WriteFault}
 use Rattle.scanwriter.specs.declared.WriteFault.TheVariants.{UnevenList, UnknownUnit, TooMany, ShortBuffer}
-use Rattle.scanwriter.specs.Written.{scan_bytes, writing_of}
+use Rattle.scanwriter.specs.Written.{scan_bytes, fault_number, fault_place, writing_of}
 
 -- ---- what writing comes to
 
@@ -20,29 +20,41 @@ pub record Asked : Type 0 where
 abbrev asked : ℕ → ℕ → ℕ → ℕ → Asked
 asked unit points faces room = record { unit = unit; points = points; faces = faces; room = room }
 
-pub examples : List (Asked × Result ℕ WriteFault)
+-- what writing comes to, with the number and the place that a refusal is answered by
+abbrev pub told : Result ℕ WriteFault → Result ℕ WriteFault × Result ℕ (ℕ × ℕ)
+told (Ok size) = (Ok size, Ok size)
+told (Err fault) = (Err fault, Err (fault_number fault, fault_place fault))
+
+-- so many bytes written, and a refusal by a number at a place
+abbrev written : ℕ → Result ℕ WriteFault × Result ℕ (ℕ × ℕ)
+written size = (Ok size, Ok size)
+
+abbrev refused : WriteFault → (number place : ℕ) → Result ℕ WriteFault × Result ℕ (ℕ × ℕ)
+refused fault number place = (Err fault, Err (number, place))
+
+pub examples : List (Asked × (Result ℕ WriteFault × Result ℕ (ℕ × ℕ)))
 examples =
     -- the example square: a buffer exactly full, and one byte short
-    (asked 1 15 12 138, Ok 138)
-    ∷ (asked 1 15 12 137, Err ShortBuffer)
+    (asked 1 15 12 138, written 138)
+    ∷ (asked 1 15 12 137, refused ShortBuffer 31 0)
     -- an empty mesh, and the longest file
-    ∷ (asked 2 0 0 30, Ok 30)
-    ∷ (asked 2 384 768 4638, Ok 4638)
+    ∷ (asked 2 0 0 30, written 30)
+    ∷ (asked 2 384 768 4638, written 4638)
     -- a list's length; it comes before the unit
-    ∷ (asked 1 14 12 138, Err UnevenList)
-    ∷ (asked 0 15 11 0, Err UnevenList)
+    ∷ (asked 1 14 12 138, refused UnevenList 1 0)
+    ∷ (asked 0 15 11 0, refused UnevenList 1 0)
     -- the unit, of which no higher bit is dropped; it comes before too many
-    ∷ (asked 0 15 12 138, Err UnknownUnit)
-    ∷ (asked 65537 15 12 138, Err UnknownUnit)
-    ∷ (asked 3 387 771 0, Err UnknownUnit)
+    ∷ (asked 0 15 12 138, refused UnknownUnit 24 0)
+    ∷ (asked 65537 15 12 138, refused UnknownUnit 24 0)
+    ∷ (asked 3 387 771 0, refused UnknownUnit 24 0)
     -- 129 points, which come before 257 faces; they before the buffer
-    ∷ (asked 1 387 771 0, Err (TooMany 18))
-    ∷ (asked 1 384 771 0, Err (TooMany 1560))
-    ∷ (asked 1 3 771 0, Err (TooMany 36))
-    ∷ (asked 1 384 768 4637, Err ShortBuffer)
+    ∷ (asked 1 387 771 0, refused (TooMany 18) 27 18)
+    ∷ (asked 1 384 771 0, refused (TooMany 1560) 27 1560)
+    ∷ (asked 1 3 771 0, refused (TooMany 36) 27 36)
+    ∷ (asked 1 384 768 4637, refused ShortBuffer 31 0)
     ∷ []
 
-pub examples-hold : map (λ c. writing_of c.0.unit c.0.points c.0.faces c.0.room) examples ≡ map (λ c. c.1) examples
+pub examples-hold : map (λ c. told (writing_of c.0.unit c.0.points c.0.faces c.0.room)) examples ≡ map (λ c. c.1) examples
 unfolding writing_of examples
 examples-hold = refl
 

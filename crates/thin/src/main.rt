@@ -8,7 +8,7 @@ ghost use Rattle.replies.specs.Clauses.{IsScan};
 
 mod files;
 
-use replies::{INPUT_ROOM, Reply, TEXT_ROOM, Wanted};
+use replies::{Reply, Wanted};
 use std::rt::{Env, Files};
 use std::str;
 
@@ -42,7 +42,7 @@ fn hand_out(rt: &(impl Files + Env + Print + Eprint + Alloc), wanted: Wanted, by
 
 // Answers a file. A refusal is printed, and saves nothing.
 fn answer(rt: &(impl Files + Env + Print + Eprint + Alloc), wanted: Wanted, bytes: &[u8]) {
-    let mut out = [0; TEXT_ROOM];
+    let mut out = replies::text_cells();
     match replies::write_reply(&mut out, wanted, bytes) {
         Reply::Mesh(n, _) => hand_out(rt, wanted, &out[..n]),
         Reply::Refusal(n, number, place, _) => print_refusal(rt, &out[..n], number, place),
@@ -51,7 +51,7 @@ fn answer(rt: &(impl Files + Env + Print + Eprint + Alloc), wanted: Wanted, byte
 
 // Answers a file, with the line of the pairs closed.
 fn answer_why(rt: &(impl Print + Eprint + Alloc), bytes: &[u8]) {
-    let mut out = [0; TEXT_ROOM];
+    let mut out = replies::text_cells();
     match replies::write_why(&mut out, bytes) {
         Reply::Mesh(n, _) => files::print(rt, &out[..n]),
         Reply::Refusal(n, number, place, _) => print_refusal(rt, &out[..n], number, place),
@@ -61,7 +61,7 @@ fn answer_why(rt: &(impl Print + Eprint + Alloc), bytes: &[u8]) {
 // Answers the file that the first argument names, as it is asked for; or with why, where the first argument asks that, the file that the second names.
 fn main(rt: HostRuntime) {
     let why = files::is_argument(&rt, 1, b"--why");
-    let mut input = [0; INPUT_ROOM];
+    let mut input = replies::input_cells();
     let Some(n) = files::read_input(&rt, if why { 2 } else { 1 }, &mut input) else {
         return;
     };

@@ -1,8 +1,8 @@
 // What a scan is measured in: a unit's number, and the bound on the size of its coordinates.
 #![tactic(auto)]
 
-ghost use Rattle.std.specs.Prelude.{◌≡◌};
-ghost use Rattle.units.specs.Units.{unit_number, unit_bound, ReadsUnit};
+ghost use Rattle.std.specs.Prelude.{◌≡◌, true};
+ghost use Rattle.units.specs.Units.{unit_number, unit_bound, known_unit, unit_of, ReadsUnit};
 
 // What the coordinates of a scan are in.
 #[derive(Clone, Copy, Debug, PartialEq, Eq)]
@@ -52,4 +52,12 @@ impl TryFrom<u32> for Unit {
             _ => Err(UnknownUnit(number)),
         }
     }
+}
+
+// The unit of a number that is one's.
+pub fn unit_of(number: u32) -> Unit
+    requires { known_unit number ≡ true }
+    ensures { result ≡ unit_of number }
+{
+    Unit::try_from(number).unwrap()
 }

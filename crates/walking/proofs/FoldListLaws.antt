@@ -1,20 +1,18 @@
 -- The folds that a walk has written down, as the numbers of a list.
 -- Assumes nothing.
-use Prim.Native.Nat.{ℕ, zero, suc, ◌+◌, ◌*◌, ◌≤◌, min}
+use Prim.Native.Nat.{ℕ, zero, suc, ◌+◌, ◌*◌, ◌≤◌, ◌<◌, min}
 use native.Mathlib.Omega.{arith}
 use native.Mathlib.Numerals.{add-one}
-use mathlib.Core.Path.{◌≡◌, refl, sym, ap, ap₂, ◌∙◌}
+use mathlib.Core.Path.{◌≡◌, refl, sym, ap, ◌∙◌}
 use mathlib.Core.List.{List, [], ◌∷◌, ◌++◌, map, map-append, append_assoc}
-use lib.ListN.{length, get_or, drop, take, length-take}
+use lib.ListN.{length, get_or, set, take, length-take}
 use lib.Seq.{get_or-take}
-use Rattle.std.specs.Prelude.{slice_range}
-use Rattle.std.proofs.lemmas.List.{same_lists, get_or_default}
-use Rattle.std.proofs.lemmas.List.Edits.{get_or-between, length-between}
 use Rattle.walk.specs.declared.Pair.{Pair}
 use Rattle.lists.specs.Lists.{below}
 use Rattle.walk.specs.Pairs.{pair_of}
 use Rattle.walk.proofs.SamePairs.{pair_path}
 use Rattle.lists.proofs.BelowLaws.{map-same-below, length-each, get_d-each}
+use Rattle.lists.proofs.OverlayLaws.{copied, copy_more, copy-all}
 use Rattle.memory.specs.Entries.{folds_in}
 use Rattle.meaning.specs.Outcome.{pair_numbers}
 use Rattle.meaning.specs.Call.{listed}
@@ -58,21 +56,19 @@ module _ (v f : ℕ) (w : List ℕ) (made : ℕ) (folds : List ℕ) where
       let all : length (pair_numbers (folds_in v f w made)) ≡ 2 * made = ap length (fold-cells v f w made) ∙ length-each _ (2 * made) in
       omega (arith, length-take (length folds) (pair_numbers (folds_in v f w made)))
 
-  -- they are the cells from folds_from on
-  row-cells : {from n : ℕ} → from ≡ folds_from v f → n ≡ min (length folds) (2 * made) → from + n ≤ length w → slice_range w from (from + n) ≡ row
-  row-cells {from} {n} start count long =
-      let here : length (slice_range w from (from + n)) ≡ n = omega (arith, length-between w from (from + n) long) in
-      same_lists _ _ (omega (arith, here, row-length))
-      (λ k d inside.
-      get_or_default _ k d 0 inside
-      ∙ get_or-between w from (from + n) k 0 (omega (arith, here))
-      ∙ ap (λ (a : ℕ). get_or w (a + k) 0) start
-      ∙ sym (get_or-take (length folds) (pair_numbers (folds_in v f w made)) k 0 (omega (arith, here))
-      ∙ ap (λ (l : List ℕ). get_or l k 0) (fold-cells v f w made)
-      ∙ get_d-each _ (2 * made) k 0 (omega (arith, here)))
-      ∙ sym (get_or_default row k d 0 (omega (arith, here, row-length))))
+  row_at : (i : ℕ) → i < min (2 * made) (length folds) → get_or row i 0 ≡ get_or w (folds_from v f + i) 0
+  row_at i l =
+      get_or-take (length folds) (pair_numbers (folds_in v f w made)) i 0 (omega arith)
+      ∙ ap (λ (l : List ℕ). get_or l i 0) (fold-cells v f w made)
+      ∙ get_d-each _ (2 * made) i 0 (omega arith)
 
-  -- written over the beginning of the list
-  pub row-listed : {from n : ℕ} → from ≡ folds_from v f → n ≡ min (length folds) (2 * made) → from + n ≤ length w →
-      slice_range w from (from + n) ++ drop n folds ≡ listed (folds_in v f w made) folds
-  row-listed start count long = ap₂ (λ (new : List ℕ) (k : ℕ). new ++ drop k folds) (row-cells start count long) (omega (arith, count, row-length))
+  -- one number more is copied, and in the end all
+  pub row_more : (i : ℕ) (now : List ℕ) → i < min (2 * made) (length folds) → now ≡ copied i row folds →
+      set now i (get_or w (folds_from v f + i) 0) ≡ copied (i + 1) row folds
+  row_more i now l e =
+      ap (set now i) (sym (row_at i l))
+      ∙ copy_more i row folds now 0 (omega (arith, row-length)) (omega (arith, row-length)) e
+
+  pub row-all : (i : ℕ) (now : List ℕ) → i ≤ min (2 * made) (length folds) → min (2 * made) (length folds) ≤ i → now ≡ copied i row folds →
+      now ≡ listed (folds_in v f w made) folds
+  row-all i now most least e = copy-all i row folds now (omega (arith, row-length)) (omega (arith, row-length)) e

@@ -12,7 +12,7 @@ use meaning::Options;
 use memory::Extent;
 use placement::Bounds;
 use plainwalk::Walked;
-use units::Unit;
+use units::unit_of;
 use walk::Closings;
 
 // How the mesh is walked: by every cost worked out anew, or by a queue.
@@ -60,7 +60,7 @@ fn bounds_of(options: Options) -> Bounds
     let limit = options.limit;
     Bounds {
         limit,
-        size: Unit::try_from(options.unit).unwrap().bound(),
+        size: unit_of(options.unit).bound(),
     }
 }
 
@@ -91,7 +91,9 @@ fn list_folds(w: &[u32], extent: Extent, made: usize, folds: &mut [u32])
 {
     let from = memory::folds_from(extent);
     let n = folds.len().min(2 * made);
-    folds[..n].copy_from_slice(&w[from..from + n]);
+    for i in 0..n {
+        folds[i] = w[from + i];
+    }
 }
 
 // Lays a mesh out, walks it and lists its folds.
