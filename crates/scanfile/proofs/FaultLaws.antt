@@ -35,6 +35,7 @@ none-holds false false false true e h = absurd (not_passed h)
 none-holds false false false false true h = absurd (not_passed h)
 none-holds false false false false false h = (refl, refl, refl, refl, refl)
 
+-- the first of the five tests that holds refuses it
 module _ (bytes : List ℕ) (kind : ℕ) (at : ℕ) where
   pub head-cut : length bytes < at + head_length → record_fault bytes kind at ≡ Err CutShort
   unfolding record_fault
@@ -88,10 +89,10 @@ pub whole-size : {bytes : List ℕ} {kind at : ℕ} → eqb kind 1 ≡ false →
 whole-size no-options no-margin p = eqb-true _ _ (not-false _ (rw (no-options, no-margin) at p.size_right))
 
 pub points-size : {bytes : List ℕ} {at : ℕ} → GoodRecord bytes 2 at → size_at bytes at % 12 ≡ 0
-points-size p = eqb-true _ _ (not-false _ p.size_right)
+points-size = whole-size refl refl
 
 pub faces-size : {bytes : List ℕ} {at : ℕ} → GoodRecord bytes 3 at → size_at bytes at % 12 ≡ 0
-faces-size p = eqb-true _ _ (not-false _ p.size_right)
+faces-size = whole-size refl refl
 
 pub margin-size : {bytes : List ℕ} {at : ℕ} → GoodRecord bytes 4 at → size_at bytes at % 4 ≡ 0
 margin-size p = eqb-true _ _ (not-false _ p.size_right)
